@@ -1,0 +1,196 @@
+-- What a flow's judgement is measured by: plain counts and sums over its records, the records that pass, and the checks of a record one by one.
+use Prim.Native.Nat.{ℕ, _+_, _<_, _≤_, _%_}
+use mathlib.Core.Path.{_≡_}
+use mathlib.Core.Bool.{cond}
+use mathlib.Core.List.{List, [], _∷_, _++_, map}
+use lib.Dec.{eqb}
+use lib.ListN.{length}
+use Rattle.text.specs.Characters.{firstBad}
+use Rattle.text.specs.Numbers.{numberOf}
+use Rattle.layout.specs.declared.Field.{Field}
+use Rattle.layout.specs.declared.RecordType.{RecordType}
+use Rattle.layout.specs.declared.RecordType.the-variants.{F4, T10, T20, T40, T50, EF, NoType}
+use Rattle.layout.specs.declared.Kind.{Kind}
+use Rattle.layout.specs.declared.Kind.the-variants.{Head, Taxpayer, Domicile, Line, Balance, Payment, Receipt, Addressee, Tail, Unknown}
+use Rattle.layout.specs.Sections.{sectionAt}
+use Rattle.layout.specs.Kinds.{typeIn, kindIn}
+use Rattle.layout.specs.Fields.{amountAt, finalBalance, delegaNumber, creationDate, supportName, fieldsOf, bytesOf, valueOf}
+use Rattle.rules.specs.declared.Sums.{Sums}
+use Rattle.rules.specs.declared.Place.{Place}
+use Rattle.rules.specs.declared.State.{State}
+use Rattle.rules.specs.declared.Outcome.{Outcome}
+use Rattle.rules.specs.declared.Outcome.the-variants.{Pass, Fault}
+use Rattle.rules.specs.State.{startState}
+use Rattle.rules.specs.Order.{first, stands, typeStands, full}
+use Rattle.rules.specs.Amounts.{lineFault}
+use Rattle.rules.specs.Stored.{Stored, storedOf, right, faultOf}
+use Rattle.rules.specs.Checks.{charFault, orBad, numberFault, negativeFault, headName, tailName, dateFault, fault}
+use Rattle.rules.specs.Step.{next}
+use Rattle.judge.specs.Flow.{recordsOf, headNameOf}
+
+-- a number of each record, added up over the records
+unfoldable pub sumOver : (List ℕ → ℕ) → List (List ℕ) → ℕ
+sumOver f [] = 0
+sumOver f (r ∷ rs) = f r + sumOver f rs
+
+-- 1 for the type 10, with which a delega begins, and 0 for any other
+abbrev pub opens : RecordType → ℕ
+opens F4 = 0
+opens T10 = 1
+opens T20 = 0
+opens T40 = 0
+opens T50 = 0
+opens EF = 0
+opens NoType = 0
+
+-- the number of records of type 10
+abbrev pub tensIn : List (List ℕ) → ℕ
+tensIn rs = sumOver (λ r. opens (typeIn r)) rs
+
+-- the number that a line of section s gives, and 0 for a record that is no line
+abbrev pub ofLine : (ℕ → ℕ) → Kind → ℕ
+ofLine f Head = 0
+ofLine f Taxpayer = 0
+ofLine f Domicile = 0
+ofLine f (Line s) = f s
+ofLine f (Balance s) = 0
+ofLine f Payment = 0
+ofLine f Receipt = 0
+ofLine f Addressee = 0
+ofLine f Tail = 0
+ofLine f Unknown = 0
+
+-- a number for a record 50-01, and 0 for any other
+abbrev pub ofPayment : ℕ → Kind → ℕ
+ofPayment n Head = 0
+ofPayment n Taxpayer = 0
+ofPayment n Domicile = 0
+ofPayment n (Line s) = 0
+ofPayment n (Balance s) = 0
+ofPayment n Payment = n
+ofPayment n Receipt = 0
+ofPayment n Addressee = 0
+ofPayment n Tail = 0
+ofPayment n Unknown = 0
+
+-- the two sides of a line
+pub data Side : Type 0 where
+  Debit : Side
+  Credit : Side
+
+-- one side of sums
+abbrev pub sideOf : Side → Sums → ℕ
+sideOf Debit t = t .debit
+sideOf Credit t = t .credit
+
+-- the field of one side in the lines of section s
+abbrev pub columnOf : Side → ℕ → Field
+columnOf Debit s = amountAt (sectionAt s .debit)
+columnOf Credit s = amountAt (sectionAt s .credit)
+
+-- one side of all lines, added up
+abbrev pub linesIn : Side → List (List ℕ) → ℕ
+linesIn x rs = sumOver (λ r. ofLine (λ s. valueOf r (columnOf x s)) (kindIn r)) rs
+
+-- one side of the lines of section i, added up
+abbrev pub sectionIn : Side → ℕ → List (List ℕ) → ℕ
+sectionIn x i rs = sumOver (λ r. ofLine (λ s. cond (eqb s i) (valueOf r (columnOf x i)) 0) (kindIn r)) rs
+
+-- the final balances of the records 50-01, added up
+abbrev pub finalsIn : List (List ℕ) → ℕ
+finalsIn rs = sumOver (λ r. ofPayment (valueOf r finalBalance) (kindIn r)) rs
+
+-- the last of the records, or x where there are none
+unfoldable pub lastOf : List ℕ → List (List ℕ) → List ℕ
+lastOf x [] = x
+lastOf x (r ∷ rs) = lastOf r rs
+
+-- the state after records
+unfoldable pub stateAfter : State → List (List ℕ) → State
+stateAfter st [] = st
+stateAfter st (r ∷ rs) = stateAfter (next st r) rs
+
+-- no record of a list has a fault
+abbrev pub NoFault : List ℕ → State → List (List ℕ) → Type 0
+NoFault name st [] = Unit {0}
+NoFault name st (r ∷ rs) = (fault name st r ≡ Pass) × NoFault name (next st r) rs
+
+-- 1 to 546 whole records
+pub record Whole (s : List ℕ) : Type 0 where
+  pub short : length s ≤ 65520
+  pub some : 0 < length s
+  pub even : length s % 120 ≡ 0
+
+-- whole records without a fault, of which the last is EF
+pub record Sound (s : List ℕ) : Type 0 where
+  pub whole : Whole s
+  pub passes : NoFault (headNameOf s) startState (recordsOf s)
+  pub ends : kindIn (lastOf [] (recordsOf s)) ≡ Tail
+
+-- the first record with a fault, number n at position p, is the k-th of a list
+pub record FirstFault (name : List ℕ) (st : State) (rs : List (List ℕ)) (n k p : ℕ) : Type 0 where
+  pub before : List (List ℕ)
+  pub here : List ℕ
+  pub behind : List (List ℕ)
+  pub split : rs ≡ before ++ (here ∷ behind)
+  pub counted : k ≡ length before + 1
+  pub passes : NoFault name st before
+  pub fails : fault name (stateAfter st before) here ≡ Fault n p
+
+-- no record has a fault, the last is not EF, and the place told is that behind the last
+pub record Unfinished (s : List ℕ) (r p : ℕ) : Type 0 where
+  pub passes : NoFault (headNameOf s) startState (recordsOf s)
+  pub ends : kindIn (lastOf [] (recordsOf s)) ≡ Tail → ⊥
+  pub counted : r ≡ length (recordsOf s) + 1
+  pub nowhere : p ≡ 0
+
+-- 4: a record of a type and a kind may stand at a place
+abbrev pub orderCheck : Place → RecordType → Kind → Outcome
+orderCheck p t k = cond (stands p k) Pass (cond (typeStands p t) (Fault 4 11) (Fault 4 2))
+
+-- 6: the section has room for one more line
+abbrev pub mostCheck : Place → Kind → Outcome
+mostCheck p k = cond (full p k) (Fault 6 11) Pass
+
+-- 7: a numeric field has digits only
+abbrev pub fieldCheck : List ℕ → Field → Outcome
+fieldCheck r f = orBad (numberOf (bytesOf r f)) f Pass
+
+-- 9 of a line, 14 of a 50-01, 16 and 17 of the head, 16 of the tail
+abbrev pub ownChecks : List ℕ → State → Kind → List ℕ → List Outcome
+ownChecks name st Head r = headName (bytesOf r supportName) ∷ dateFault (valueOf r creationDate) ∷ []
+ownChecks name st Taxpayer r = []
+ownChecks name st Domicile r = []
+ownChecks name st (Line s) r = lineFault s (valueOf r (amountAt (sectionAt s .debit))) (valueOf r (amountAt (sectionAt s .credit))) ∷ []
+ownChecks name st (Balance s) r = []
+ownChecks name st Payment r = negativeFault (st .money .delega .all) ∷ []
+ownChecks name st Receipt r = []
+ownChecks name st Addressee r = []
+ownChecks name st Tail r = tailName name (bytesOf r supportName) ∷ []
+ownChecks name st Unknown r = []
+
+-- 10 to 13, 15, 18 to 20: a stored field is right
+abbrev pub storedCheck : List ℕ → Stored → Outcome
+storedCheck r x = cond (right x r) Pass (faultOf x)
+
+-- every check of one record by itself, in the order of the numbers
+unfoldable pub checksOf : List ℕ → State → List ℕ → List Outcome
+checksOf name st r =
+    (charFault (firstBad r) ∷ orderCheck (st .place) (typeIn r) (kindIn r) ∷ mostCheck (st .place) (kindIn r) ∷ [])
+    ++ (map (fieldCheck r) (fieldsOf (kindIn r))
+    ++ (numberFault (st .deleghe) (kindIn r) (valueOf r delegaNumber) ∷ (ownChecks name st (kindIn r) r ++ map (storedCheck r) (storedOf st (kindIn r)))))
+
+-- the first outcome that is a fault
+unfoldable pub firstOf : List Outcome → Outcome
+firstOf [] = Pass
+firstOf (o ∷ os) = first o (firstOf os)
+
+-- an outcome has no number below n
+abbrev pub AtLeast : ℕ → Outcome → Type 0
+AtLeast n Pass = Unit {0}
+AtLeast n (Fault m p) = n ≤ m
+
+-- none of a list of outcomes has a number below n
+abbrev pub AllAtLeast : ℕ → List Outcome → Type 0
+AllAtLeast n [] = Unit {0}
+AllAtLeast n (o ∷ os) = AtLeast n o × AllAtLeast n os

@@ -1,0 +1,71 @@
+-- The kind of a record, from its type at 2-3 and its subtype at 11-12.
+use Prim.Native.Nat.{ℕ, _+_}
+use mathlib.Core.Bool.{Bool, true, false, cond}
+use mathlib.Core.List.{List, [], _∷_}
+use lib.Dec.{eqb}
+use lib.ListN.{getD, take, drop}
+use Rattle.text.specs.declared.Digits.{Digits}
+use Rattle.text.specs.declared.Digits.the-variants.{Number, NonDigit, TooLong}
+use Rattle.text.specs.Numbers.{numberOf}
+use Rattle.layout.specs.declared.Section.{Section}
+use Rattle.layout.specs.declared.RecordType.{RecordType}
+use Rattle.layout.specs.declared.RecordType.the-variants.{F4, T10, T20, T40, T50, EF, NoType}
+use Rattle.layout.specs.declared.Kind.{Kind}
+use Rattle.layout.specs.declared.Kind.the-variants.{Head, Taxpayer, Domicile, Line, Balance, Payment, Receipt, Addressee, Tail, Unknown}
+use Rattle.layout.specs.Sections.{sections, at}
+
+-- two characters are x and y
+unfoldable pub same : ℕ → ℕ → ℕ → ℕ → Bool
+same a b x y = cond (eqb a x) (eqb b y) false
+
+-- "All records: type at 2-3": the characters F4, 10, 20, 40, 50, EF
+unfoldable pub typeOf : ℕ → ℕ → RecordType
+typeOf a b =
+    cond (same a b 70 52) F4
+    (cond (same a b 49 48) T10
+    (cond (same a b 50 48) T20
+    (cond (same a b 52 48) T40
+    (cond (same a b 53 48) T50
+    (cond (same a b 69 70) EF NoType)))))
+
+-- the line or the balance with this subtype, of the sections from the i-th on
+unfoldable pub sectionKindFrom : ℕ → List Section → ℕ → Kind
+sectionKindFrom i [] n = Unknown
+sectionKindFrom i (x ∷ xs) n =
+    cond (eqb n (x .«line_subtype»)) (Line i) (cond (eqb n (x .«balance_subtype»)) (Balance i) (sectionKindFrom (i + 1) xs n))
+
+-- "Section | Line | Balance": the records of type 40
+abbrev pub sectionKind : ℕ → Kind
+sectionKind n = sectionKindFrom 0 sections n
+
+-- 50-01, 50-02 and 50-03
+unfoldable pub paymentKind : ℕ → Kind
+paymentKind n = cond (eqb n 1) Payment (cond (eqb n 2) Receipt (cond (eqb n 3) Addressee Unknown))
+
+-- what a subtype names, where it is a number
+abbrev pub named : (ℕ → Kind) → Digits → Kind
+named f (Number n) = f n
+named f (NonDigit i) = Unknown
+named f TooLong = Unknown
+
+-- the kind of a record of a type, with a subtype
+abbrev pub kindOf : RecordType → Digits → Kind
+kindOf F4 d = Head
+kindOf T10 d = Taxpayer
+kindOf T20 d = Domicile
+kindOf T40 d = named sectionKind d
+kindOf T50 d = named paymentKind d
+kindOf EF d = Tail
+kindOf NoType d = Unknown
+
+-- "type at 2-3"
+abbrev pub typeIn : List ℕ → RecordType
+typeIn r = typeOf (getD r (at 2) 0) (getD r (at 3) 0)
+
+-- "Records 40 and 50: subtype at 11-12"
+abbrev pub subtypeIn : List ℕ → Digits
+subtypeIn r = numberOf (take 2 (drop (at 11) r))
+
+-- the kind of a record
+unfoldable pub kindIn : List ℕ → Kind
+kindIn r = kindOf (typeIn r) (subtypeIn r)

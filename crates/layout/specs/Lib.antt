@@ -1,0 +1,3 @@
+pub mod Sections
+pub mod Kinds
+pub mod Fields

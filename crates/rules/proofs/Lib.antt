@@ -1,0 +1,6 @@
+pub mod Standing
+pub mod Spelling
+pub mod Lines
+pub mod Arrays
+pub mod Reading
+pub mod Growth

@@ -1,0 +1,89 @@
+-- The step over a record: it looks at the kind and, of a line, at the amounts.
+use Prim.Native.Nat.{ℕ, _+_}
+use mathlib.Core.List.{List}
+use lib.ListN.{getD, set}
+use Rattle.layout.specs.declared.Kind.{Kind}
+use Rattle.layout.specs.declared.Kind.the-variants.{Head, Taxpayer, Domicile, Line, Balance, Payment, Receipt, Addressee, Tail, Unknown}
+use Rattle.layout.specs.Sections.{sectionAt}
+use Rattle.layout.specs.Kinds.{kindIn}
+use Rattle.layout.specs.Fields.{amountAt, valueOf}
+use Rattle.rules.specs.declared.Sums.{Sums}
+use Rattle.rules.specs.declared.DelegaSums.{DelegaSums}
+use Rattle.rules.specs.declared.Place.{Place}
+use Rattle.rules.specs.declared.Money.{Money}
+use Rattle.rules.specs.declared.State.{State}
+use Rattle.rules.specs.State.{noSums, zeroDelega, placedAt, afterHead, afterTaxpayer, afterDomicile, afterLine, afterBalance, afterPayment, afterReceipt, afterAddressee, afterTail}
+use Rattle.rules.specs.Amounts.{finalOf}
+
+-- the place after a record
+abbrev pub nextPlace : Place → Kind → Place
+nextPlace p Head = placedAt afterHead 0 0
+nextPlace p Taxpayer = placedAt afterTaxpayer 0 0
+nextPlace p Domicile = placedAt afterDomicile 0 0
+nextPlace p (Line s) = placedAt afterLine s (p .lines + 1)
+nextPlace p (Balance s) = placedAt afterBalance s 0
+nextPlace p Payment = placedAt afterPayment 0 0
+nextPlace p Receipt = placedAt afterReceipt 0 0
+nextPlace p Addressee = placedAt afterAddressee 0 0
+nextPlace p Tail = placedAt afterTail 0 0
+nextPlace p Unknown = p
+
+-- "The first delega is 1, each next one is one more"
+abbrev pub nextDeleghe : ℕ → Kind → ℕ
+nextDeleghe d Head = d
+nextDeleghe d Taxpayer = d + 1
+nextDeleghe d Domicile = d
+nextDeleghe d (Line s) = d
+nextDeleghe d (Balance s) = d
+nextDeleghe d Payment = d
+nextDeleghe d Receipt = d
+nextDeleghe d Addressee = d
+nextDeleghe d Tail = d
+nextDeleghe d Unknown = d
+
+-- a line's amounts added to sums, and to those of section s in a list
+abbrev pub added : Sums → Sums → Sums
+added t x = record { debit = t .debit + x .debit; credit = t .credit + x .credit }
+
+unfoldable pub addedAt : List Sums → ℕ → Sums → List Sums
+addedAt l s x = set l s (added (getD l s noSums) x)
+
+-- "Sums start at zero for every delega"; a line counts in its delega and in the flow; a 50-01 closes the delega, and its final balance counts in the flow's sum
+abbrev pub nextMoney : Money → Kind → Sums → Money
+nextMoney m Head x = m
+nextMoney m Taxpayer x = record { delega = zeroDelega; flow = m .flow; total = m .total }
+nextMoney m Domicile x = m
+nextMoney m (Line s) x =
+    record {
+      delega = record { sections = addedAt (m .delega .sections) s x; all = added (m .delega .all) x };
+      flow = addedAt (m .flow) s x;
+      total = m .total;
+    }
+nextMoney m (Balance s) x = m
+nextMoney m Payment x = record { delega = zeroDelega; flow = m .flow; total = m .total + finalOf (m .delega .all) }
+nextMoney m Receipt x = m
+nextMoney m Addressee x = m
+nextMoney m Tail x = m
+nextMoney m Unknown x = m
+
+-- the amounts of a line; a record that is none has none
+abbrev pub lineSums : Kind → List ℕ → Sums
+lineSums Head r = noSums
+lineSums Taxpayer r = noSums
+lineSums Domicile r = noSums
+lineSums (Line s) r = record { debit = valueOf r (amountAt (sectionAt s .debit)); credit = valueOf r (amountAt (sectionAt s .credit)) }
+lineSums (Balance s) r = noSums
+lineSums Payment r = noSums
+lineSums Receipt r = noSums
+lineSums Addressee r = noSums
+lineSums Tail r = noSums
+lineSums Unknown r = noSums
+
+-- the step over a record of a kind with these amounts
+abbrev pub nextOf : State → Kind → Sums → State
+nextOf st k x =
+    record { place = nextPlace (st .place) k; deleghe = nextDeleghe (st .deleghe) k; money = nextMoney (st .money) k x; seen = st .seen + 1 }
+
+-- the state after a record
+unfoldable pub next : State → List ℕ → State
+next st r = nextOf st (kindIn r) (lineSums (kindIn r) r)

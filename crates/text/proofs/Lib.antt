@@ -1,0 +1,6 @@
+pub mod Bytes
+pub mod Allowed
+pub mod Numerals
+pub mod Puts
+pub mod Fits
+pub mod Writing
