@@ -4,3 +4,4 @@ pub mod Lines
 pub mod Arrays
 pub mod Reading
 pub mod Growth
+pub mod Examples

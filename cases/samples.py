@@ -1,0 +1,75 @@
+"""The sample flows, in the columns that 000 gives for each record. All persons, firms and accounts are invented; the check
+characters of the tax codes and of the accounts are right."""
+
+from case import case, no, yes
+from flow import delega, flow
+
+COOPERATIVE = {     # a farm cooperative: a firm's tax code has 11 digits, then blanks
+    "tax_code": "03417520545     ", "name": "COOPERATIVA AGRICOLA VAL", "name2": "NERINA SOC. COOP.", "sex": " ",
+    "born_in": "", "born_province": "", "born": "00000000",
+    "town": "SPOLETO", "province": "PG", "street": "STRADA DELLE OLIVETE 48",
+    "cab": "21800", "account": "000010047732", "cin": "O", "iban_check": "55", "zip": "06049", "client": "COOPVALNERINA",
+}
+ROASTERY = {        # a coffee roaster in her own name: a person's tax code has 16 characters
+    "tax_code": "BNCLRA75D52G478N", "name": "BIANCHI", "name2": "LAURA", "sex": "F",
+    "born_in": "PERUGIA", "born_province": "PG", "born": "19750412",
+    "town": "FOLIGNO", "province": "PG", "street": "VIA DEI TORREFATTORI 7",
+    "cab": "21700", "account": "000000558120", "cin": "T", "iban_check": "89", "zip": "06034", "client": "TORREFAZIONEBIANCHI",
+}
+ACCOUNTANT = {"sender": "B4T7Q", "sender_tax_code": "02765310541     ", "bank": "09990", "paid": "20250616"}
+
+
+def erario(code, reference, debit, credit):
+    return debit, credit, {13: "##", 15: code, 19: reference, 60: "0" * 11}
+
+
+def inps(office, cause, number, month, debit, credit):
+    return debit, credit, {13: "##", 15: office, 19: cause, 23: number, 40: month, 46: "000000"}
+
+
+def regioni(region, code, reference, debit, credit):
+    return debit, credit, {13: region, 15: "##", 17: code, 21: reference}
+
+
+def imu(town, code, year, buildings, debit, credit):
+    return debit, credit, {13: town, 17: "##", 19: code, 23: "0000" + year, 61: "0010", 65: "%03d" % buildings, 68: "0" * 15}
+
+
+def ident(kind, element, code, year, office, debit):
+    return debit, 0, {13: "##", 15: kind, 16: element, 33: code, 37: year, 71: office, 74: "0" * 11}
+
+
+def regional_tax():
+    """01's printed whole case: Regioni lines (10000, 0) and (0, 2500)."""
+    return flow(delega(regioni=[regioni("19", "3802", "00052025", 10000, 0), regioni("19", "3796", "00002024", 0, 2500)],
+                       payer=ROASTERY), name="F24-TORREFAZIONE-003", head=ACCOUNTANT)
+
+
+def all_sections():
+    """A cooperative with the four sections and its receipt's address, then a roaster's payment with identifying elements."""
+    return flow(
+        delega(erario=[erario("1001", "00052025", 482316, 0), erario("1040", "00052025", 36000, 0),
+                       erario("6099", "00002024", 0, 120050)],
+               inps=[inps("5800", "DM10", "5801234567", "052025", 615400, 0),
+                     inps("5800", "C10", "06049SPOLETO", "052025", 41275, 0)],
+               regioni=[regioni("19", "3800", "01012024", 208890, 0), regioni("19", "3802", "00052025", 30412, 1500)],
+               imu=[imu("I921", "3918", "2025", 2, 154600, 0), imu("I921", "3914", "2025", 0, 8800, 0)],
+               after=2, payer=COOPERATIVE),
+        delega(ident=[ident("A", "WV1ZZZ7HZ8H004217", "6205", "2025", "", 517000),
+                      ident("F", "TK325T000418000SE", "1501", "2025", "TK3", 18400)],
+               after=1, payer=ROASTERY),
+        name="F24-STUDIO-VERDI-017", head=ACCOUNTANT)
+
+
+def wrong_balance():
+    """As regional_tax, but the balance of 40-06 is stored as the sum of debit and credit."""
+    return regional_tax().put(6, 46, "000000000012500")
+
+
+SAMPLES = {"regioni.f24": regional_tax(), "all-sections.f24": all_sections(), "wrong-balance.f24": wrong_balance()}
+
+case("sample-regioni", yes(1, 8, 7500, regioni=(10000, 2500)), SAMPLES["regioni.f24"],
+     "01, Examples: the answer printed whole")
+case("sample-all-sections", yes(2, 27, 1991543, erario=(518316, 120050), inps=(656675, 0), regioni=(239302, 1500), imu=(163400, 0),
+                                ident=(535400, 0)), SAMPLES["all-sections.f24"], "01, Order: all five sections")
+case("sample-wrong-balance", no(13, 6, 46), SAMPLES["wrong-balance.f24"], "01, Sections: the balance is the difference")

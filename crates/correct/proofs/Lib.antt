@@ -1,0 +1,12 @@
+pub mod Amended
+pub mod Mended
+pub mod Split
+pub mod Conditions
+pub mod StaysAccepted
+pub mod Rewritten
+pub mod SameAmounts
+pub mod Back
+pub mod OtherSums
+pub mod OnlyNamed
+pub mod Undone
+pub mod Named

@@ -1,0 +1,160 @@
+-- The records of a flow before and behind the line that is named, and the flow with that line's amounts replaced.
+use Prim.Native.Nat.{ℕ, _+_, _-_, _*_, _%_, _≤_, _<_}
+use mathlib.Core.Path.{_≡_, refl, sym, ap, _∙_}
+use mathlib.Core.Bool.{Bool, true, false, cond}
+use mathlib.Core.List.{List, [], _∷_, _++_, append-assoc}
+use native.Mathlib.Omega.{arith}
+use borrow.Author.Tests.{eqb-true}
+use lib.Dec.{eqb}
+use lib.ListN.{length, length-append}
+use lib.Seq.{take-append-le, drop-append-le, take-append-add, drop-append-add}
+use Rattle.text.specs.Numbers.{digitsOf}
+use Rattle.text.specs.Placing.{putAt}
+use Rattle.layout.specs.declared.Kind.{Kind}
+use Rattle.layout.specs.declared.Kind.the-variants.{Head, Taxpayer, Domicile, Line, Balance, Payment, Receipt, Addressee, Tail, Unknown}
+use Rattle.layout.specs.Sections.{sectionAt}
+use Rattle.layout.specs.Kinds.{sectionKind, kindIn}
+use Rattle.rules.specs.declared.Place.{Place}
+use Rattle.rules.specs.declared.State.{State}
+use Rattle.rules.specs.State.{startState}
+use Rattle.rules.specs.Step.{nextPlace, nextDeleghe, next}
+use Rattle.judge.specs.Flow.{recordsOf}
+use Rattle.rebalance.specs.Rebalance.{stateAfter, Sized, flat}
+use Rattle.rebalance.proofs.Written.{both-true}
+use Rattle.rebalance.proofs.Columns.{line-within}
+use Rattle.rebalance.proofs.Flat.{length-flat, records-flat}
+use Rattle.rebalance.proofs.Judged.{sized-records, flat-records}
+use Rattle.find.specs.Line.{isLine, lineFrom, lineOfKind, lineOf}
+use Rattle.correct.specs.Correction.{sectionOfKind, sectionOf, replaced}
+use Rattle.correct.proofs.Amended.{amended, credit-room, debit-room, length-amended}
+
+-- The k-th record, counted from the j-th on, is a line of section s in delega d.
+pub record Split (d s : ℕ) (st : State) (j k : ℕ) (rs : List (List ℕ)) : Type 0 where
+  pub before : List (List ℕ)
+  pub here : List ℕ
+  pub behind : List (List ℕ)
+  pub split : rs ≡ before ++ (here ∷ behind)
+  pub counted : k ≡ j + length before + 1
+  pub kind : kindIn here ≡ Line s
+  pub number : stateAfter st before .deleghe ≡ d
+
+-- A record that is such a line is of the section, in the delega.
+is-line : (d s n : ℕ) (p : Place) (e : ℕ) (k : Kind) → isLine d s n p e k ≡ true → (k ≡ Line s) × (e ≡ d)
+is-line d s n p e Head h = (cc, cc)
+is-line d s n p e Taxpayer h = (cc, cc)
+is-line d s n p e Domicile h = (cc, cc)
+is-line d s n p e (Line t) h =
+    let a = both-true (eqb t s) _ h in
+    let b = both-true (eqb e d) _ (a .1) in
+    (ap Line (eqb-true t s (a .0)), eqb-true e d (b .0))
+is-line d s n p e (Balance t) h = (cc, cc)
+is-line d s n p e Payment h = (cc, cc)
+is-line d s n p e Receipt h = (cc, cc)
+is-line d s n p e Addressee h = (cc, cc)
+is-line d s n p e Tail h = (cc, cc)
+is-line d s n p e Unknown h = (cc, cc)
+
+-- A line that is found among records splits them.
+split-from : (d s n : ℕ) (st : State) (j k : ℕ) (rs : List (List ℕ)) → lineFrom d s n (st .place) (st .deleghe) j rs ≡ k → (k ≡ 0 → ⊥) → Split d s st j k rs
+unfolding lineFrom next stateAfter
+split-from d s n st j k [] e h = absurd (h (sym e))
+split-from d s n st j k (r ∷ rs) e h = go (isLine d s n (st .place) (st .deleghe) (kindIn r)) refl e (λ f. split-from d s n (next st r) (j + 1) k rs f h)
+  where
+    go : (t : Bool) → isLine d s n (st .place) (st .deleghe) (kindIn r) ≡ t → cond t (j + 1) (lineFrom d s n (nextPlace (st .place) (kindIn r)) (nextDeleghe (st .deleghe) (kindIn r)) (j + 1) rs) ≡ k →
+        (lineFrom d s n (nextPlace (st .place) (kindIn r)) (nextDeleghe (st .deleghe) (kindIn r)) (j + 1) rs ≡ k → Split d s (next st r) (j + 1) k rs) → Split d s st j k (r ∷ rs)
+    go true t f on =
+        let a = is-line d s n (st .place) (st .deleghe) (kindIn r) t in
+        record { before = []; here = r; behind = rs; split = refl; counted = omega arith; kind = a .0; number = a .1 }
+    go false t f on =
+        let p = on f in
+        record { before = r ∷ p .before; here = p .here; behind = p .behind; split = ap (_∷_ r) (p .split); counted = omega (arith, p .counted); kind = p .kind; number = p .number }
+
+-- The line that is named splits the records of its flow.
+pub line-splits : (f : List ℕ) (d subtype n : ℕ) → (lineOf f d subtype n ≡ 0 → ⊥) → Split d (sectionOf subtype) startState 0 (lineOf f d subtype n) (recordsOf f)
+unfolding lineOf startState
+line-splits f d subtype n h = go (sectionKind subtype) h
+  where
+    go : (k : Kind) → (lineOfKind d k n f ≡ 0 → ⊥) → Split d (sectionOfKind k) startState 0 (lineOfKind d k n f) (recordsOf f)
+    go Head h = absurd (h refl)
+    go Taxpayer h = absurd (h refl)
+    go Domicile h = absurd (h refl)
+    go (Line s) h = split-from d s n startState 0 _ (recordsOf f) refl h
+    go (Balance s) h = absurd (h refl)
+    go Payment h = absurd (h refl)
+    go Receipt h = absurd (h refl)
+    go Addressee h = absurd (h refl)
+    go Tail h = absurd (h refl)
+    go Unknown h = absurd (h refl)
+
+-- The bytes of records one after the other are theirs.
+flat-append : (xs ys : List (List ℕ)) → flat (xs ++ ys) ≡ flat xs ++ flat ys
+unfolding flat
+flat-append [] ys = refl
+flat-append (x ∷ xs) ys = rw (flat-append xs ys) (sym (append-assoc x (flat xs) (flat ys)))
+
+-- Records of 120 bytes are so in each part.
+sized-parts : (xs ys : List (List ℕ)) → Sized (xs ++ ys) → Sized xs × Sized ys
+sized-parts [] ys z = (tt, z)
+sized-parts (x ∷ xs) ys z = let p = sized-parts xs ys (z .1) in ((z .0, p .0), p .1)
+
+-- Parts of records of 120 bytes are so together.
+sized-append : (xs ys : List (List ℕ)) → Sized xs → Sized ys → Sized (xs ++ ys)
+sized-append [] ys z w = w
+sized-append (x ∷ xs) ys z w = (z .0, sized-append xs ys (z .1) w)
+
+-- Bytes put into a part of a list.
+put-within : (c : ℕ) (bs a r b : List ℕ) → c + length bs ≤ length r → putAt (length a + c) bs (a ++ (r ++ b)) ≡ a ++ (putAt c bs r ++ b)
+unfolding putAt
+put-within c bs a r b h =
+    let e : length a + c + length bs ≡ length a + (c + length bs) = omega arith in
+    rw (e, take-append-add a (r ++ b) c, drop-append-add a (r ++ b) (c + length bs), take-append-le c r b (omega arith), drop-append-le (c + length bs) r b h) (simp append-assoc)
+
+-- A flow of whole records, split at a line.
+module _ (f : List ℕ) (whole : length f % 120 ≡ 0) {d s k : ℕ} (p : Split d s startState 0 k (recordsOf f)) where
+  -- Its records have 120 bytes each.
+  pub parts : Sized (p .before) × Sized (p .here ∷ p .behind)
+  parts = sized-parts (p .before) (p .here ∷ p .behind) (rw (p .split) at (sized-records f whole))
+
+  -- The line has 120 bytes.
+  pub length-here : length (p .here) ≡ 120
+  length-here = parts .1 .0
+
+  -- Its section is in the table.
+  pub within-table : s < 5
+  within-table = line-within (p .here) s (p .kind)
+
+  -- The flow is the bytes of the records before it, of the line and of those behind it.
+  whole-flow : f ≡ flat (p .before) ++ (p .here ++ flat (p .behind))
+  unfolding flat
+  whole-flow = sym (flat-records f whole) ∙ (ap flat (p .split) ∙ flat-append (p .before) (p .here ∷ p .behind))
+
+  module _ (x y : ℕ) where
+    -- With other amounts it is the bytes of the same records but for the line's.
+    pub replaced-flat : replaced k s x y f ≡ flat (p .before ++ (amended s x y (p .here) ∷ p .behind))
+    unfolding replaced amended flat
+    replaced-flat =
+        let e : (k - 1) * 120 ≡ length (flat (p .before)) = omega (arith, p .counted, length-flat (p .before) (parts .0)) in
+        ap (λ (l : List ℕ). putAt ((k - 1) * 120 + sectionAt s .debit) (digitsOf 15 x) (putAt ((k - 1) * 120 + sectionAt s .credit) (digitsOf 15 y) l)) whole-flow
+        ∙ (rw (
+          e,
+          put-within (sectionAt s .credit) (digitsOf 15 y) (flat (p .before)) (p .here) (flat (p .behind)) (credit-room s within-table (p .here) length-here y),
+          put-within (sectionAt s .debit) (digitsOf 15 x) (flat (p .before)) (putAt (sectionAt s .credit) (digitsOf 15 y) (p .here)) (flat (p .behind)) (debit-room s within-table (p .here) length-here x y),
+        ) (sym (flat-append (p .before) (amended s x y (p .here) ∷ p .behind))))
+
+    -- The records of the flow with other amounts are the same but for the line.
+    pub records-replaced : recordsOf (replaced k s x y f) ≡ p .before ++ (amended s x y (p .here) ∷ p .behind)
+    records-replaced =
+        ap recordsOf replaced-flat
+        ∙ records-flat _ (sized-append (p .before) _ (parts .0) (length-amended s within-table (p .here) length-here x y, parts .1 .1))
+
+    -- It has as many bytes.
+    pub length-replaced : length (replaced k s x y f) ≡ length f
+    unfolding flat
+    length-replaced =
+        omega (
+          arith,
+          simp length-append at (ap length (replaced-flat ∙ flat-append (p .before) (amended s x y (p .here) ∷ p .behind))),
+          simp length-append at (ap length whole-flow),
+          length-amended s within-table (p .here) length-here x y,
+          length-here,
+        )

@@ -1,0 +1,138 @@
+-- What the writing of a line's amounts leaves in the flow, and how it is undone.
+use Prim.Native.Nat.{ℕ, _+_, _-_, _*_, _/_, _%_, _^_, _<_, _≤_}
+use mathlib.Core.Path.{_≡_, refl, sym, ap, _∙_}
+use mathlib.Core.Bool.{Bool, true, false, cond}
+use mathlib.Core.List.{List, [], _∷_, _++_}
+use native.Mathlib.Omega.{arith}
+use borrow.Author.Tests.{lt-ltb, le-ltb}
+use lib.ListN.{length, take, drop, replicate, length-drop}
+use lib.Seq.{length-take-le, take-all}
+use Rattle.text.specs.Numbers.{digitsOf}
+use Rattle.text.specs.Placing.{putAt, partBytes, numberBytes}
+use Rattle.text.proofs.Numerals.{length-digits}
+use Rattle.text.proofs.Puts.{length-put, put-here, put-before, put-same, put-over, put-back}
+use Rattle.text.proofs.Fits.{part-fits, part-written, number-fits, number-written}
+use Rattle.layout.specs.Sections.{sectionAt}
+use Rattle.layout.proofs.Table.{row-rule}
+use Rattle.rules.specs.State.{startState}
+use Rattle.rules.specs.Amounts.{lineRight}
+use Rattle.judge.specs.Flow.{recordsOf}
+use Rattle.judge.specs.Plain.{Whole}
+use Rattle.rebalance.specs.Rebalance.{allFit}
+use Rattle.rebalance.specs.Weigh.{anyNegative}
+use Rattle.correct.specs.declared.Correction.{Correction}
+use Rattle.correct.specs.declared.Correction.the-variants.{Made, Refused}
+use Rattle.correct.specs.Correction.{replaced, weighed, tried}
+use Rattle.correct.specs.Writing.{amountsPut, Room, Fifteen, KthLine}
+
+-- A part that lies within the room is put there.
+pub put-is : (s : ℕ) (bs r l : List ℕ) → s + length bs ≤ length r → l ≡ partBytes s bs r → l ≡ putAt s bs r
+put-is s bs r l h e = e ∙ part-written s bs r (part-fits s (length bs) (length r) h) .1
+
+-- Fifteen bytes copied into room for fifteen are those bytes.
+pub copied : (bs l : List ℕ) → length bs ≡ 15 → l ≡ partBytes 0 bs (replicate 15 0) → l ≡ bs
+copied bs l h e =
+    let r : List ℕ = replicate 15 0 in
+    let g : 0 + length bs ≤ length r = omega arith in
+    let p = put-is 0 bs r l g e in
+    let n = length-put 0 bs r g in
+    p ∙ (sym (whole-take (putAt 0 bs r) (length bs) (omega arith)) ∙ put-here 0 bs r g (length bs) refl)
+  where
+    whole-take : (x : List ℕ) (n : ℕ) → length x ≡ n → take n x ≡ x
+    whole-take x n e = take-all n x (omega arith)
+
+module _ (f : List ℕ) (d c : ℕ) (room : Room f d c) where
+  -- The bytes of an amount lie within the flow.
+  pub old-length : (m : ℕ) → m ≤ c → length (take 15 (drop m f)) ≡ 15
+  old-length m h = length-take-le 15 (drop m f) (let i = room .inside in rw length-drop (omega arith))
+
+  module _ (x y : ℕ) where
+    credit-in : c + length (digitsOf 15 y) ≤ length f
+    credit-in = let i = room .inside in omega (arith, length-digits 15 y)
+
+    length-credit : length (putAt c (digitsOf 15 y) f) ≡ length f
+    length-credit = length-put c (digitsOf 15 y) f credit-in
+
+    debit-in : d + length (digitsOf 15 x) ≤ length (putAt c (digitsOf 15 y) f)
+    debit-in = let i = room .inside in let a = room .apart in omega (arith, length-digits 15 x, length-credit)
+
+    -- With other amounts the flow has as many bytes.
+    pub length-amounts : length (amountsPut d c x y f) ≡ length f
+    unfolding amountsPut
+    length-amounts = length-put d (digitsOf 15 x) (putAt c (digitsOf 15 y) f) debit-in ∙ length-credit
+
+    -- Two numbers of fifteen digits, put one after the other.
+    pub amounts-written : (l₁ l₂ : List ℕ) → Fifteen x → Fifteen y → l₁ ≡ numberBytes c 15 y f → l₂ ≡ numberBytes d 15 x l₁ → l₂ ≡ amountsPut d c x y f
+    unfolding amountsPut
+    amounts-written l₁ l₂ hx hy e₁ e₂ =
+        let i = room .inside in
+        let a = room .apart in
+        let p = e₁ ∙ number-written c 15 y f (number-fits c 15 y (length f) i (hy .digits)) .1 in
+        let n : length l₁ ≡ length f = ap length p ∙ length-credit in
+        e₂ ∙ (number-written d 15 x l₁ (number-fits d 15 x (length l₁) (omega arith) (hx .digits)) .1 ∙ ap (putAt d (digitsOf 15 x)) p)
+
+    -- What stood there, put back, restores the flow.
+    pub undone : putAt c (take 15 (drop c f)) (putAt d (take 15 (drop d f)) (amountsPut d c x y f)) ≡ f
+    unfolding amountsPut
+    undone =
+        let a = room .apart in
+        let od = old-length d (omega arith) in
+        let n = length-digits 15 x in
+        let m = length-digits 15 y in
+        let g = putAt c (digitsOf 15 y) f in
+        let same : take 15 (drop d g) ≡ take 15 (drop d f) = put-before c (digitsOf 15 y) f credit-in 15 d a in
+        let inner : putAt d (take 15 (drop d f)) (putAt d (digitsOf 15 x) g) ≡ g =
+        put-over d (digitsOf 15 x) g debit-in (take 15 (drop d f)) (od ∙ sym n)
+        ∙ put-same d (take 15 (drop d f)) g (omega (arith, length-credit, room .inside)) (rw od same)
+        in
+        ap (putAt c (take 15 (drop c f))) inner ∙ (ap (λ (w : ℕ). putAt c (take w (drop c f)) g) (sym m) ∙ put-back c (digitsOf 15 y) f credit-in)
+
+-- A flow of whole records is one with other amounts too.
+pub whole-amounts : (f : List ℕ) (d c : ℕ) → Room f d c → (x y : ℕ) → Whole f → Whole (amountsPut d c x y f)
+whole-amounts f d c room x y w =
+    let e = length-amounts f d c room x y in
+    record { short = rw e (w .short); some = rw e (w .some); even = rw e (w .even) }
+
+-- 14, 23, or made.
+module _ (t : List ℕ) where
+  pub weighed-negative : anyNegative startState (recordsOf t) ≡ true → weighed t ≡ Refused 14 0 0
+  unfolding weighed
+  weighed-negative e = rw e
+
+  pub weighed-made : anyNegative startState (recordsOf t) ≡ false → allFit startState (recordsOf t) ≡ true → weighed t ≡ Made
+  unfolding weighed
+  weighed-made e g = rw (e, g)
+
+  pub weighed-unfit : anyNegative startState (recordsOf t) ≡ false → allFit startState (recordsOf t) ≡ false → weighed t ≡ Refused 23 0 0
+  unfolding weighed
+  weighed-unfit e g = rw (e, g)
+
+-- 22, 9, or what the rest says.
+module _ (k s x y : ℕ) (f : List ℕ) where
+  pub tried-debit : 999_999_999_999_999 < x → tried k s x y f ≡ Refused 22 0 0
+  unfolding tried
+  tried-debit h = rw (lt-ltb _ _ h)
+
+  pub tried-credit : x ≤ 999_999_999_999_999 → 999_999_999_999_999 < y → tried k s x y f ≡ Refused 22 0 0
+  unfolding tried
+  tried-credit g h = rw (le-ltb _ _ g, lt-ltb _ _ h)
+
+  pub tried-wrong : x ≤ 999_999_999_999_999 → y ≤ 999_999_999_999_999 → lineRight s x y ≡ false → tried k s x y f ≡ Refused 9 0 0
+  unfolding tried
+  tried-wrong g h e = rw (le-ltb _ _ g, le-ltb _ _ h, e)
+
+  pub tried-weighed : x ≤ 999_999_999_999_999 → y ≤ 999_999_999_999_999 → lineRight s x y ≡ true → tried k s x y f ≡ weighed (replaced k s x y f)
+  unfolding tried
+  tried-weighed g h e = rw (le-ltb _ _ g, le-ltb _ _ h, e)
+
+  pub replaced-is : replaced k s x y f ≡ amountsPut ((k - 1) * 120 + sectionAt s .debit) ((k - 1) * 120 + sectionAt s .credit) x y f
+  unfolding replaced amountsPut
+  replaced-is = refl
+
+-- The amounts of a line lie within its record.
+pub line-room : (f : List ℕ) (k s : ℕ) → KthLine f k s → Room f ((k - 1) * 120 + sectionAt s .debit) ((k - 1) * 120 + sectionAt s .credit)
+line-room f k s h =
+    let r = row-rule s (h .section) in
+    let a = h .counted in
+    let b = h .within in
+    record { apart = omega arith; inside = omega arith }

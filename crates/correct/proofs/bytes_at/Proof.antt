@@ -1,0 +1,47 @@
+use lib.Seq.{length-take-le}
+use lib.ListN.{length, take, drop, length-drop}
+use native.Mathlib.Nat.{add-sub-cancel-left}
+use Prim.Native.Nat.{_+_, _-_, _≤_}
+use Rattle.correct.proofs.Undone.{put-is, copied, old-length, length-amounts, amounts-written, undone, whole-amounts, weighed-negative, weighed-made, weighed-unfit, tried-debit, tried-credit, tried-wrong, tried-weighed, replaced-is, line-room}
+use native.Mathlib.Omega.{arith}
+use mathlib.Core.Path.{_≡_, refl, sym, ap, _∙_}
+use borrow.Author.Needs.{needs}
+use Rattle.correct.proofs.bytes_at.Statement.{statement}
+use Rattle.correct.proofs.bytes_at.Tie as tie
+
+slice-aggregate-put-part : tie.Need-slice-aggregate-put-part
+slice-aggregate-put-part c = search needs
+
+add-put-part : tie.Need-add-put-part
+add-put-part c = search needs
+
+sub-put-part : tie.Need-sub-put-part
+sub-put-part c = search needs
+
+part-put-part-start : tie.Need-part-put-part-start
+part-put-part-start c = search needs
+
+part-put-part-end : tie.Need-part-put-part-end
+part-put-part-end c = search needs
+
+put-part-requires : tie.Need-put-part-requires
+put-part-requires c κs = search needs
+
+returns : tie.Need-returns
+returns c =
+    let at = c .before .before .before .before .before .args .at in
+    let f = c .before .before .before .before .before .args .flow .now in
+    let h : at + 15 ≤ length f = c .before .before .before .before .before .pre in
+    copied (take 15 (drop at f)) _ (length-take-le 15 (drop at f) (rw length-drop (omega arith))) (rw (add-sub-cancel-left at 15) at (c .before .put-part .ensures .1))
+
+pub bytes-at-spec : {M : Type 1} → statement M
+bytes-at-spec =
+    tie.close
+    (tie.spec
+    slice-aggregate-put-part
+    add-put-part
+    sub-put-part
+    part-put-part-start
+    part-put-part-end
+    put-part-requires
+    returns)

@@ -1,0 +1,84 @@
+-- Demand 3: the line's amounts replaced, and every total, sign, balance and tail sum worked out afresh from all the lines.
+use Prim.Native.Nat.{ℕ, _+_, _-_, _*_}
+use mathlib.Core.Bool.{Bool, true, cond}
+use mathlib.Core.List.{List}
+use lib.Dec.{eqb, ltb}
+use Rattle.text.specs.Numbers.{digitsOf}
+use Rattle.text.specs.Placing.{putAt}
+use Rattle.layout.specs.declared.Kind.{Kind}
+use Rattle.layout.specs.declared.Kind.the-variants.{Head, Taxpayer, Domicile, Line, Balance, Payment, Receipt, Addressee, Tail, Unknown}
+use Rattle.layout.specs.Sections.{sectionAt}
+use Rattle.layout.specs.Kinds.{sectionKind}
+use Rattle.rules.specs.declared.Sums.{Sums}
+use Rattle.rules.specs.State.{startState}
+use Rattle.rules.specs.Amounts.{lineRight}
+use Rattle.judge.specs.Flow.{recordsOf}
+use Rattle.rebalance.specs.Rebalance.{rebalanced, allFit, flat}
+use Rattle.rebalance.specs.Weigh.{anyNegative}
+use Rattle.find.specs.declared.Found.{Found}
+use Rattle.find.specs.declared.Found.the-variants as Answer
+use Rattle.find.specs.Line.{foundIn}
+use Rattle.correct.specs.declared.Correction.{Correction}
+use Rattle.correct.specs.declared.Correction.the-variants.{Made, Refused}
+
+-- the section whose lines have a subtype; past the table where there is none
+abbrev pub sectionOfKind : Kind → ℕ
+sectionOfKind Head = 5
+sectionOfKind Taxpayer = 5
+sectionOfKind Domicile = 5
+sectionOfKind (Line s) = s
+sectionOfKind (Balance s) = 5
+sectionOfKind Payment = 5
+sectionOfKind Receipt = 5
+sectionOfKind Addressee = 5
+sectionOfKind Tail = 5
+sectionOfKind Unknown = 5
+
+abbrev pub sectionOf : ℕ → ℕ
+sectionOf subtype = sectionOfKind (sectionKind subtype)
+
+-- the flow with the amounts of its k-th record, a line of section s, replaced
+unfoldable pub replaced : ℕ → ℕ → ℕ → ℕ → List ℕ → List ℕ
+replaced k s debit credit f =
+    putAt ((k - 1) * 120 + sectionAt s .debit) (digitsOf 15 debit) (putAt ((k - 1) * 120 + sectionAt s .credit) (digitsOf 15 credit) f)
+
+-- every stored field of a flow worked out afresh from all its lines
+unfoldable pub refreshed : List ℕ → List ℕ
+refreshed f = flat (rebalanced startState (recordsOf f))
+
+-- 14 and 23 of a flow whose line has been replaced: "delega negative", then "a new stored total, balance or sum has more digits than its field"
+unfoldable pub weighed : List ℕ → Correction
+weighed f =
+    cond (anyNegative startState (recordsOf f)) (Refused 14 0 0) (cond (allFit startState (recordsOf f)) Made (Refused 23 0 0))
+
+-- 22, "above 999,999,999,999,999"
+abbrev pub tooLarge : ℕ → ℕ → Bool
+tooLarge debit credit = cond (ltb 999_999_999_999_999 debit) true (ltb 999_999_999_999_999 credit)
+
+-- 22, 9, 14, 23 "in this order", of new amounts for the k-th record, a line of section s
+unfoldable pub tried : ℕ → ℕ → ℕ → ℕ → List ℕ → Correction
+tried k s debit credit f =
+    cond (tooLarge debit credit) (Refused 22 0 0)
+    (cond (lineRight s debit credit) (weighed (replaced k s debit credit f)) (Refused 9 0 0))
+
+-- "Every call on a flow judges it first"; "A correction then tries 21, 22, 9, 14, 23 in this order"
+abbrev pub afterFound : Found → ℕ → ℕ → ℕ → List ℕ → Correction
+afterFound (Answer.At k) s debit credit f = tried k s debit credit f
+afterFound (Answer.Refused n r p) s debit credit f = Refused n r p
+
+-- the answer to a correction
+unfoldable pub correctionOf : List ℕ → ℕ → ℕ → ℕ → ℕ → ℕ → Correction
+correctionOf f d subtype n debit credit = afterFound (foundIn f d subtype n) (sectionOf subtype) debit credit f
+
+-- the bytes after it: "Every refusal leaves lent memory as it came"
+abbrev pub bytesAfter : Correction → List ℕ → List ℕ → List ℕ
+bytesAfter Made new old = new
+bytesAfter (Refused n r p) new old = old
+
+abbrev pub placeFound : Found → ℕ
+placeFound (Answer.At k) = k
+placeFound (Answer.Refused n r p) = 0
+
+unfoldable pub correctedBytes : List ℕ → ℕ → ℕ → ℕ → ℕ → ℕ → List ℕ
+correctedBytes f d subtype n debit credit =
+    bytesAfter (correctionOf f d subtype n debit credit) (refreshed (replaced (placeFound (foundIn f d subtype n)) (sectionOf subtype) debit credit f)) f

@@ -1,0 +1,54 @@
+-- What is shown of corrections: when one is made, the amounts that a line has, and what a series of calls leaves.
+use Prim.Native.Nat.{ℕ, _-_, _≤_}
+use mathlib.Core.Path.{_≡_}
+use mathlib.Core.Bool.{true, false}
+use mathlib.Core.List.{List, [], _∷_}
+use lib.ListN.{getD}
+use Rattle.layout.specs.Sections.{sectionAt}
+use Rattle.layout.specs.Fields.{amountAt, valueOf}
+use Rattle.rules.specs.State.{startState}
+use Rattle.rules.specs.Amounts.{lineRight}
+use Rattle.judge.specs.declared.Verdict.the-variants.{Accepted}
+use Rattle.judge.specs.Flow.{recordsOf, judged}
+use Rattle.rebalance.specs.Rebalance.{allFit}
+use Rattle.find.specs.Line.{lineOf}
+use Rattle.rebalance.specs.Weigh.{anyNegative}
+use Rattle.correct.specs.Correction.{sectionOf, replaced, correctedBytes}
+
+-- The flow with the amounts of the line that is named replaced.
+abbrev pub withAmounts : List ℕ → ℕ → ℕ → ℕ → ℕ → ℕ → List ℕ
+withAmounts f d subtype n debit credit = replaced (lineOf f d subtype n) (sectionOf subtype) debit credit f
+
+-- None of the refusals of a correction holds: that of the flow, 21, 22, 9, 14 and 23.
+pub record MayBeMade (f : List ℕ) (d subtype n debit credit : ℕ) : Type 0 where
+  pub accepted : judged f .verdict ≡ Accepted
+  pub found : lineOf f d subtype n ≡ 0 → ⊥
+  pub debit-fits : debit ≤ 999_999_999_999_999
+  pub credit-fits : credit ≤ 999_999_999_999_999
+  pub right : lineRight (sectionOf subtype) debit credit ≡ true
+  pub not-negative : anyNegative startState (recordsOf (withAmounts f d subtype n debit credit)) ≡ false
+  pub all-fits : allFit startState (recordsOf (withAmounts f d subtype n debit credit)) ≡ true
+
+-- The record of the line that is named.
+abbrev pub recordNamed : List ℕ → ℕ → ℕ → ℕ → List ℕ
+recordNamed f d subtype n = getD (recordsOf f) (lineOf f d subtype n - 1) []
+
+-- Its debit and its credit.
+abbrev pub debitOf : List ℕ → ℕ → ℕ → ℕ → ℕ
+debitOf f d subtype n = valueOf (recordNamed f d subtype n) (amountAt (sectionAt (sectionOf subtype) .debit))
+
+abbrev pub creditOf : List ℕ → ℕ → ℕ → ℕ → ℕ
+creditOf f d subtype n = valueOf (recordNamed f d subtype n) (amountAt (sectionAt (sectionOf subtype) .credit))
+
+-- One call: the line's delega, subtype and place in its section, and its new amounts.
+pub record Call : Type 0 where
+  pub delega : ℕ
+  pub subtype : ℕ
+  pub place : ℕ
+  pub debit : ℕ
+  pub credit : ℕ
+
+-- The flow after calls one after the other.
+unfoldable pub after : List Call → List ℕ → List ℕ
+after [] f = f
+after (c ∷ cs) f = after cs (correctedBytes f (c .delega) (c .subtype) (c .place) (c .debit) (c .credit))

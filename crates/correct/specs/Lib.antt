@@ -1,0 +1,4 @@
+pub mod Correction
+pub mod Effect
+pub mod Touched
+pub mod Writing

@@ -1,0 +1,56 @@
+-- "What a correction may touch": columns of the line, of its section's balance record, of its delega's 50-01 and of EF. "Nothing else, fillers and unread fields included."
+use Prim.Native.Nat.{ℕ, _+_, _/_, _%_}
+use mathlib.Core.Bool.{Bool, true, false, cond}
+use mathlib.Core.List.{List, [], _∷_}
+use lib.Dec.{eqb, ltb, leb}
+use lib.ListN.{getD}
+use Rattle.layout.specs.declared.Field.{Field}
+use Rattle.layout.specs.declared.Kind.{Kind}
+use Rattle.layout.specs.declared.Kind.the-variants.{Head, Taxpayer, Domicile, Line, Balance, Payment, Receipt, Addressee, Tail, Unknown}
+use Rattle.layout.specs.Sections.{sectionAt}
+use Rattle.layout.specs.Kinds.{kindIn}
+use Rattle.layout.specs.Fields.{amountAt, delegaNumber, finalBalance, tailSum, valueOf}
+use Rattle.judge.specs.Flow.{recordsOf}
+use Rattle.find.specs.Line.{lineOf}
+use Rattle.correct.specs.Correction.{sectionOf}
+
+-- "The line's debit and credit" may be touched.
+abbrev pub lineColumns : ℕ → List Field
+lineColumns s = amountAt (sectionAt s .debit) ∷ amountAt (sectionAt s .credit) ∷ []
+
+-- So may "totals, sign and balance of that section's balance record".
+abbrev pub signAndBalance : ℕ → List Field
+signAndBalance s = record { start = sectionAt s .sign; end = sectionAt s .sign + 1 } ∷ amountAt (sectionAt s .balance) ∷ []
+
+abbrev pub balanceColumns : ℕ → List Field
+balanceColumns s =
+    cond (sectionAt s .totals)
+    (amountAt (sectionAt s .«total_debit») ∷ amountAt (sectionAt s .«total_credit») ∷ signAndBalance s)
+    (signAndBalance s)
+
+-- So may "the final balance of that delega; the sum in EF". These are the columns in a record of a kind with delega number n, for a line of section s in delega d.
+abbrev pub storedColumns : ℕ → ℕ → Kind → ℕ → List Field
+storedColumns d s Head n = []
+storedColumns d s Taxpayer n = []
+storedColumns d s Domicile n = []
+storedColumns d s (Line t) n = []
+storedColumns d s (Balance t) n = cond (eqb t s) (cond (eqb n d) (balanceColumns s) []) []
+storedColumns d s Payment n = cond (eqb n d) (finalBalance ∷ []) []
+storedColumns d s Receipt n = []
+storedColumns d s Addressee n = []
+storedColumns d s Tail n = tailSum ∷ []
+storedColumns d s Unknown n = []
+
+-- An index of a record lies in one of these fields.
+unfoldable pub inAny : ℕ → List Field → Bool
+inAny c [] = false
+inAny c (x ∷ xs) = cond (cond (leb (x .start) c) (ltb c (x .end)) false) true (inAny c xs)
+
+-- These are the columns that may be touched in a record behind q others, where the line is the k-th record.
+abbrev pub columnsOf : ℕ → ℕ → ℕ → ℕ → List ℕ → List Field
+columnsOf d s k q r = cond (eqb (q + 1) k) (lineColumns s) (storedColumns d s (kindIn r) (valueOf r delegaNumber))
+
+-- A correction of the line that is named may touch the byte at an index of the flow.
+unfoldable pub mayTouch : List ℕ → ℕ → ℕ → ℕ → ℕ → Bool
+mayTouch f d subtype n i =
+    inAny (i % 120) (columnsOf d (sectionOf subtype) (lineOf f d subtype n) (i / 120) (getD (recordsOf f) (i / 120) []))

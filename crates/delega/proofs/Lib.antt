@@ -1,0 +1,5 @@
+pub mod Search
+pub mod Asked
+pub mod Moves
+pub mod OwnRecords
+pub mod PlainAnswer

@@ -1,0 +1,110 @@
+-- The search for one delega: the state that it has come to, and what each of its ways out says of the whole flow.
+use Prim.Native.Nat.{ℕ, suc, _+_, _-_, _*_, _/_, _<_, _≤_}
+use mathlib.Core.Path.{_≡_, refl, sym, ap, _∙_}
+use mathlib.Core.Bool.{true, false, cond}
+use mathlib.Core.List.{List, [], _∷_}
+use native.Mathlib.Omega.{arith}
+use native.Mathlib.Nat.{sub-zero}
+use types.Run.{OneOf, miss}
+use denote.Enum.Declared.{tagOf}
+use lib.Dec.{lit<}
+use lib.ListN.{length, take, drop}
+use lib.Seq.{drop-drop}
+use Rattle.layout.proofs.Kind.{the-type}
+use Rattle.layout.specs.declared.Kind.{Kind}
+use Rattle.layout.specs.declared.Kind.the-variants.{Head, Taxpayer, Domicile, Line, Balance, Payment, Receipt, Addressee, Tail, Unknown}
+use Rattle.layout.specs.Kinds.{kindIn}
+use Rattle.rules.specs.declared.State.{State}
+use Rattle.rules.specs.State.{noSums, startState, Small, StateBelow}
+use Rattle.rules.specs.Values.{valuesIn}
+use Rattle.rules.specs.Step.{lineSums, nextOf, next}
+use Rattle.rules.proofs.Growth.{start-below, state-on}
+use Rattle.judge.specs.Flow.{chunks, recordsOf, restOf}
+use Rattle.judge.proofs.Turn.{pair-small}
+use Rattle.delega.specs.declared.DelegaAnswer.{DelegaAnswer}
+use Rattle.delega.specs.OneDelega.{noSuchDelega, answered, closesAt, delegaFrom}
+
+-- a record that is no 50-01 closes no delega
+pub no-payment : (k : Kind) → OneOf (0 ∷ 1 ∷ 2 ∷ 3 ∷ 4 ∷ 6 ∷ 7 ∷ 8 ∷ 9 ∷ []) (tagOf the-type k) → (d n : ℕ) → closesAt d n k ≡ false
+no-payment Head t d n = refl
+no-payment Taxpayer t d n = refl
+no-payment Domicile t d n = refl
+no-payment (Line s) t d n = refl
+no-payment (Balance s) t d n = refl
+no-payment Payment t d n = absurd (miss (0 ∷ 1 ∷ 2 ∷ 3 ∷ 4 ∷ 6 ∷ 7 ∷ 8 ∷ 9 ∷ []) 5 tt t)
+no-payment Receipt t d n = refl
+no-payment Addressee t d n = refl
+no-payment Tail t d n = refl
+no-payment Unknown t d n = refl
+
+-- a record that is no line has no amounts
+pub no-line : (k : Kind) → OneOf (0 ∷ 1 ∷ 2 ∷ 4 ∷ 5 ∷ 6 ∷ 7 ∷ 8 ∷ 9 ∷ []) (tagOf the-type k) → (r : List ℕ) → lineSums k r ≡ noSums
+no-line Head t r = refl
+no-line Taxpayer t r = refl
+no-line Domicile t r = refl
+no-line (Line s) t r = absurd (miss (0 ∷ 1 ∷ 2 ∷ 4 ∷ 5 ∷ 6 ∷ 7 ∷ 8 ∷ 9 ∷ []) 3 tt t)
+no-line (Balance s) t r = refl
+no-line Payment t r = refl
+no-line Receipt t r = refl
+no-line Addressee t r = refl
+no-line Tail t r = refl
+no-line Unknown t r = refl
+
+-- amounts have at most fifteen digits
+none-small : Small noSums
+none-small = record { debit-small = lit< tt; credit-small = lit< tt }
+
+pub amounts-small : (k : Kind) (r : List ℕ) → length r ≡ 120 → Small (lineSums k r)
+unfolding valuesIn
+amounts-small Head r l = none-small
+amounts-small Taxpayer r l = none-small
+amounts-small Domicile r l = none-small
+amounts-small (Line s) r l = pair-small (Line s) r l
+amounts-small (Balance s) r l = none-small
+amounts-small Payment r l = none-small
+amounts-small Receipt r l = none-small
+amounts-small Addressee r l = none-small
+amounts-small Tail r l = none-small
+amounts-small Unknown r l = none-small
+
+-- the search for delega d, whose answer is a, has come to the state st: what a is, the rest gives from st
+pub record Searching (flow : List ℕ) (d : ℕ) (a : DelegaAnswer) (st : State) : Type 0 where
+  pub ahead : st .seen ≤ length flow / 120
+  pub rest : a ≡ delegaFrom d st (restOf flow (st .seen))
+  pub below : StateBelow st
+
+pub search-start : (flow : List ℕ) (d : ℕ) (st : State) → st ≡ startState → Searching flow d (delegaFrom d startState (recordsOf flow)) st
+unfolding startState
+search-start flow d st e = rw e (record { ahead = omega arith; rest = rw sub-zero; below = start-below })
+
+-- no record is left
+pub search-end : (flow : List ℕ) (d : ℕ) (a : DelegaAnswer) (st : State) → Searching flow d a st → length flow / 120 ≤ st .seen → a ≡ noSuchDelega
+unfolding delegaFrom chunks
+search-end flow d a st g h =
+    g .rest ∙ ap (λ (n : ℕ). delegaFrom d st (chunks n (drop (st .seen * 120) flow))) (let e : length flow / 120 - st .seen ≡ 0 = omega arith in e)
+
+chunks-on : (m n k : ℕ) (s : List ℕ) → m ≡ suc n → chunks m (drop (k * 120) s) ≡ take 120 (drop (k * 120) s) ∷ chunks n (drop ((k + 1) * 120) s)
+unfolding chunks
+chunks-on m n k s e = rw (e, drop-drop 120 (k * 120) s) (ap (λ (j : ℕ). take 120 (drop (k * 120) s) ∷ chunks n (drop j s)) (let h : k * 120 + 120 ≡ (k + 1) * 120 = omega arith in h))
+
+module _ (flow : List ℕ) (d : ℕ) (a : DelegaAnswer) (st : State) (g : Searching flow d a st) (more : st .seen < length flow / 120) (r : List ℕ) (er : r ≡ take 120 (drop (st .seen * 120) flow)) (k : Kind) (ek : k ≡ kindIn r) where
+  opened : a ≡ cond (closesAt d (st .deleghe) (kindIn r)) (answered st) (delegaFrom d (next st r) (restOf flow (st .seen + 1)))
+  unfolding delegaFrom
+  opened =
+      g .rest
+      ∙ (ap (delegaFrom d st) (chunks-on (length flow / 120 - st .seen) (length flow / 120 - (st .seen + 1)) (st .seen) flow (omega arith))
+      ∙ ap (λ (x : List ℕ). cond (closesAt d (st .deleghe) (kindIn x)) (answered st) (delegaFrom d (next st x) (restOf flow (st .seen + 1)))) (sym er))
+
+  -- the record is the 50-01 that is looked for
+  pub search-found : closesAt d (st .deleghe) k ≡ true → a ≡ answered st
+  search-found f = opened ∙ rw (← ek, f)
+
+  -- the search goes on after it
+  pub search-on : closesAt d (st .deleghe) k ≡ false → length r ≡ 120 → Searching flow d a (nextOf st k (lineSums k r))
+  unfolding next
+  search-on f l =
+      record {
+        ahead = omega arith;
+        rest = rw (← ek, f) at opened;
+        below = state-on st k (lineSums k r) (g .below) (amounts-small k r l);
+      }

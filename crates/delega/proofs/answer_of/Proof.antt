@@ -1,0 +1,13 @@
+-- `delega::answer_of` meets its contract.
+use borrow.Author.Needs.{needs}
+use Rattle.delega.proofs.answer_of.Statement.{statement}
+use Rattle.delega.proofs.answer_of.Tie as tie
+
+final-of-requires : tie.Need-final-of-requires
+final-of-requires c κs = search needs
+
+returns : tie.Need-returns
+returns c = rw (c .final-of .ensures)
+
+pub answer-of-spec : {M : Type 1} → statement M
+answer-of-spec = tie.close (tie.spec final-of-requires returns)

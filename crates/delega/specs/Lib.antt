@@ -1,0 +1,2 @@
+pub mod OneDelega
+pub mod PlainDelega

@@ -1,0 +1,134 @@
+// One delega of a flow: its final balance and its ten section sums.
+ghost use mathlib.Core.Path.{_≡_};
+ghost use Prim.Native.Nat.{_+_, _≤_};
+ghost use lib.ListN.{length};
+ghost use Rattle.layout.specs.Fields.{amountAt, valueOf};
+ghost use Rattle.rules.specs.State.{startState};
+ghost use Rattle.rules.specs.Step.{lineSums};
+ghost use Rattle.judge.specs.Flow.{recordsOf};
+ghost use Rattle.judge.specs.Plain.{Whole};
+ghost use Rattle.delega.specs.OneDelega.{refusedAs, answered, closesAt, delegaFrom, delegaOf};
+use judge::Verdict;
+use layout::Amount;
+use layout::Field;
+use layout::Flow;
+use layout::Kind;
+use rules::State;
+use rules::Sums;
+use text::Digits;
+
+// The verdict beside the delega's final balance and its sums of each of the five sections, which are zeros with a refusal.
+pub struct DelegaAnswer {
+    pub verdict: Verdict,
+    pub balance: u64,
+    pub sums: [Sums; 5],
+}
+
+// A refusal beside zeros.
+fn refused(number: u64, place: usize, position: usize) -> DelegaAnswer
+    ensures { λ r. ⌜ r ≡ refusedAs number place position ⌝ }
+{
+    DelegaAnswer {
+        verdict: Verdict::Refused(number, place, position),
+        balance: 0,
+        sums: [Sums {
+            debit: 0,
+            credit: 0,
+        }; 5],
+    }
+}
+
+// The answer of the delega that is open, at its 50-01.
+fn answer_of(st: State) -> DelegaAnswer
+    ensures { λ r. ⌜ r ≡ answered st ⌝ }
+{
+    let money = st.money;
+    let delega = money.delega;
+    let sums = delega.sections;
+    DelegaAnswer {
+        verdict: Verdict::Accepted,
+        balance: rules::final_of(delega.all),
+        sums,
+    }
+}
+
+// Whether a record of kind k is the 50-01 of a delega, after so many records 10.
+fn closes(number: u64, deleghe: u64, k: Kind) -> bool
+    ensures { λ r. ⌜ r ≡ closesAt number deleghe k ⌝ }
+{
+    if let Kind::Payment = k {
+        return deleghe == number;
+    }
+    false
+}
+
+// The amount that starts at an index of a record; a field that is no number counts as zero.
+fn amount(rec: &[u8], start: usize) -> u64
+    requires { ⌜ (length (now rec) ≡ 120) × (start + 15 ≤ 120) ⌝ }
+    ensures { λ r. ⌜ r ≡ valueOf (now (rec .entry)) (amountAt start) ⌝ }
+{
+    let field = Field {
+        start,
+        end: start + Amount::WIDTH,
+    };
+    match judge::read_field(rec, field) {
+        Digits::Number(v) => v,
+        Digits::NonDigit(_) => 0,
+        Digits::TooLong => 0,
+    }
+}
+
+// The amounts of a record of kind k, which are zeros where it is no line.
+fn amounts(rec: &[u8], k: Kind) -> Sums
+    requires { ⌜ length (now rec) ≡ 120 ⌝ }
+    ensures { λ r. ⌜ r ≡ lineSums k (now (rec .entry)) ⌝ }
+{
+    if let Kind::Line(s) = k {
+        let section = layout::section_at(s);
+        return Sums {
+            debit: amount(rec, section.debit),
+            credit: amount(rec, section.credit),
+        };
+    }
+    Sums {
+        debit: 0,
+        credit: 0,
+    }
+}
+
+// The answer of a delega by its number, from the first record on.
+fn delega_from(flow: &[u8], number: u64) -> DelegaAnswer
+    requires { ⌜ Whole (now flow) ⌝ }
+    ensures { λ r. ⌜ r ≡ delegaFrom number startState (recordsOf (now (flow .entry))) ⌝ }
+{
+    let count = flow.len() / Flow::RECORD;
+    let mut st = rules::start();
+    while st.seen < count {
+        let rec = judge::record_at(flow, st.seen * Flow::RECORD);
+        let kind = judge::kind_in(rec);
+        if closes(number, st.deleghe, kind) {
+            return answer_of(st);
+        }
+        st = rules::next_state(st, kind, amounts(rec, kind));
+    }
+    refused(21, 0, 0)
+}
+
+// The final balance and the section sums of the delega with this number, of any bytes.
+pub fn delega(flow: &[u8], number: u64) -> DelegaAnswer
+    ensures { λ r. ⌜ r ≡ delegaOf (now (flow .entry)) number ⌝ }
+{
+    let judgement = judge::judge(flow);
+    let verdict = judgement.verdict;
+    if let Verdict::Refused(code, place, position) = verdict {
+        return refused(code, place, position);
+    }
+    if number == 0 {
+        return refused(21, 0, 0);
+    }
+    let summary = judgement.summary;
+    if summary.deleghe < number {
+        return refused(21, 0, 0);
+    }
+    delega_from(flow, number)
+}

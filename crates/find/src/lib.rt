@@ -1,0 +1,118 @@
+// One line of a flow, named by its delega's number, its subtype and its place in the section.
+ghost use mathlib.Core.Path.{_≡_};
+ghost use Prim.Native.Nat.{_+_, _<_, _≤_};
+ghost use lib.ListN.{length};
+ghost use Rattle.rules.specs.State.{placedAt, atStart};
+ghost use Rattle.judge.specs.Flow.{recordsOf};
+ghost use Rattle.find.specs.Line.{isLine, lineFrom, foundIn};
+ghost use Rattle.find.specs.Part.{partStart, partOf};
+use judge::Verdict;
+use layout::Flow;
+use layout::Kind;
+use rules::Place;
+
+// The answer: the number of the line's record, counted from 1, or the refusal.
+pub enum Found {
+    At(usize),
+    Refused(u64, usize, usize),
+}
+
+// A found line: its record as a part of the caller's own buffer, or an empty part with a refusal, beside the answer.
+pub struct FoundLine<'a> {
+    pub part: &'a [u8],
+    pub answer: Found,
+}
+
+// A record of this kind, at this place of the delega opened last, is the line that is asked for.
+fn is_line(delega: u64, section: usize, place: u64, at: Place, opened: u64, kind: Kind) -> bool
+    requires { ⌜ at .lines < 1000 ⌝ }
+    ensures { λ r. ⌜ r ≡ isLine delega section place at opened kind ⌝ }
+{
+    let Kind::Line(s) = kind else {
+        return false;
+    };
+    if s != section {
+        return false;
+    }
+    if opened != delega {
+        return false;
+    }
+    at.lines + 1 == place
+}
+
+// The number of the line's record in a flow of at most 546 records, or 0 where there is no such line.
+fn line_in(flow: &[u8], delega: u64, section: usize, place: u64) -> usize
+    requires { ⌜ length (now flow) ≤ 65520 ⌝ }
+    ensures { λ r. ⌜ r ≡ lineFrom delega section place (placedAt atStart 0 0) 0 0 (recordsOf (now (flow .entry))) ⌝ }
+{
+    let count = flow.len() / Flow::RECORD;
+    let mut at = Place {
+        phase: Place::START,
+        section: 0,
+        lines: 0,
+    };
+    let mut opened: u64 = 0;
+    let mut k: usize = 0;
+    while k < count {
+        let rec = judge::record_at(flow, k * Flow::RECORD);
+        let kind = judge::kind_in(rec);
+        if is_line(delega, section, place, at, opened, kind) {
+            return k + 1;
+        }
+        at = rules::next_place(at, kind);
+        opened = rules::next_deleghe(opened, kind);
+        k += 1;
+    }
+    0
+}
+
+// The flow is judged first, and its refusal is handed on.
+pub fn find(flow: &[u8], delega: u64, subtype: u64, place: u64) -> Found
+    ensures { λ r. ⌜ r ≡ foundIn (now (flow .entry)) delega subtype place ⌝ }
+{
+    let judgement = judge::judge(flow);
+    let verdict = judgement.verdict;
+    if let Verdict::Refused(number, at, position) = verdict {
+        return Found::Refused(number, at, position);
+    }
+    let Kind::Line(section) = layout::section_kind(subtype) else {
+        return Found::Refused(21, 0, 0);
+    };
+    let k = line_in(flow, delega, section, place);
+    if k == 0 {
+        return Found::Refused(21, 0, 0);
+    }
+    Found::At(k)
+}
+
+// The record that was found, within the caller's own buffer; an empty part with a refusal, and where the flow has no such record.
+pub fn part_of(flow: &[u8], found: Found) -> &[u8]
+    ensures { λ r. ⌜ (now r ≡ partOf (now (flow .entry)) found)
+        × (r .ptr .0 ≡ flow .entry .ptr .0)
+        × (r .ptr .1 ≡ flow .entry .ptr .1 + partStart (now (flow .entry)) found) ⌝ }
+{
+    let Found::At(k) = found else {
+        return &flow[0..0];
+    };
+    if k == 0 {
+        return &flow[0..0];
+    }
+    if flow.len() / Flow::RECORD < k {
+        return &flow[0..0];
+    }
+    let start = (k - 1) * Flow::RECORD;
+    let end = start + Flow::RECORD;
+    &flow[start..end]
+}
+
+// The line's record and the answer, in one call.
+pub fn line<'a>(flow: &'a [u8], delega: u64, subtype: u64, place: u64) -> FoundLine<'a>
+    ensures { λ r. ⌜ (r .answer ≡ foundIn (now (flow .entry)) delega subtype place)
+        × (now (r .part) ≡ partOf (now (flow .entry)) (foundIn (now (flow .entry)) delega subtype place))
+        × (r .part .ptr .0 ≡ flow .entry .ptr .0)
+        × (r .part .ptr .1 ≡ flow .entry .ptr .1 + partStart (now (flow .entry)) (foundIn (now (flow .entry)) delega subtype place)) ⌝ }
+{
+    let answer = find(flow, delega, subtype, place);
+    let part = part_of(flow, answer);
+    FoundLine { part, answer }
+}

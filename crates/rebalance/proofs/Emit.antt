@@ -1,0 +1,188 @@
+-- The laws of rebalancing one record.
+use Prim.Native.Nat.{ℕ}
+use mathlib.Core.Path.{_≡_, refl, sym, ap, ap₂, _∙_}
+use mathlib.Core.Bool.{Bool, true, false, cond}
+use mathlib.Core.List.{List, []}
+use lib.ListN.{length, take, drop, getD}
+use Rattle.text.specs.declared.Characters.{Characters}
+use Rattle.text.specs.declared.Characters.the-variants.{Allowed, BadAt}
+use Rattle.text.specs.Characters.{firstBad}
+use Rattle.text.specs.Numbers.{numberOf, amountOf}
+use Rattle.layout.specs.declared.Kind.{Kind}
+use Rattle.layout.specs.Kinds.{typeOf, kindOf, typeIn, kindIn}
+use Rattle.layout.specs.Fields.{delegaNumber, fieldsOf, valueOf}
+use Rattle.rules.specs.declared.State.{State}
+use Rattle.rules.specs.declared.Outcome.{Outcome}
+use Rattle.rules.specs.declared.Outcome.the-variants.{Pass, Fault}
+use Rattle.rules.specs.Order.{first, stands, full, typeStands, standing}
+use Rattle.rules.specs.Stored.{Stored, storedOf, wrong}
+use Rattle.rules.specs.Checks.{charFault, orBad, badFields, numberFault, tailName, ownFault, fault}
+use Rattle.rules.specs.Step.{lineSums, next}
+use Rattle.rebalance.specs.Rebalance.{putAll, emit, fitsAll, clear, keptFields, keptFault}
+use Rattle.rebalance.proofs.Written.{byte-of, laid, length-putAll, putAll-clear, Holds, putAll-holds, holds-same, putAll-allowed, valueFields, holds-numbers, holds-pass, pass-fits, pass-holds}
+use Rattle.rebalance.proofs.Columns.{Storing, plain, balance, payment, tail, storing, Columns, columns, printable-stored, fields-same}
+
+-- What the other checks and the next state read of a record is the same in another.
+record Kept (name : List ℕ) (st : State) (k : Kind) (r out : List ℕ) : Type 0 where
+  fields : badFields (keptFields k) out ≡ badFields (keptFields k) r
+  own : ownFault name st k out ≡ ownFault name st k r
+  sums : lineSums k out ≡ lineSums k r
+
+-- Whether the bytes of a delega number are digits.
+abbrev numberDigits : List ℕ → Outcome
+numberDigits b = orBad (numberOf b) delegaNumber Pass
+
+-- Writing the stored fields leaves what the other checks and the next state read.
+kept : {st : State} {k : Kind} → Storing st k → Columns (storedOf st k) → (name r : List ℕ) → ((m n : ℕ) → clear m n (storedOf st k) ≡ true → take n (drop m (putAll (storedOf st k) r)) ≡ take n (drop m r)) → Kept name st k r (putAll (storedOf st k) r)
+unfolding badFields putAll clear
+kept (plain e f) c name r part = rw e (record { fields = refl; own = refl; sums = refl })
+kept (balance s h) c name r part = record { fields = ap numberDigits (part 3 7 (c .delega-number)); own = refl; sums = refl }
+kept payment c name r part = record { fields = ap numberDigits (part 3 7 (c .delega-number)); own = refl; sums = refl }
+kept tail c name r part = record { fields = refl; own = ap (tailName name) (part 19 20 refl); sums = refl }
+
+-- A record that has no character fault is made of characters.
+allowed-of : (c : Characters) → charFault c ≡ Pass → c ≡ Allowed
+allowed-of Allowed e = refl
+allowed-of (BadAt i) e = cc
+
+-- Checks that pass together pass each.
+first-pass : (a b : Outcome) → first a b ≡ Pass → (a ≡ Pass) × (b ≡ Pass)
+first-pass Pass b e = (refl, e)
+first-pass (Fault n p) b e = (e, cc)
+
+-- So do five.
+five-pass : (a b c d e : Outcome) → first a (first b (first c (first d e))) ≡ Pass → (a ≡ Pass) × (b ≡ Pass) × (c ≡ Pass) × (d ≡ Pass) × (e ≡ Pass)
+five-pass a b c d e h =
+    let w = first-pass a (first b (first c (first d e))) h in
+    let x = first-pass b (first c (first d e)) (w .1) in
+    let y = first-pass c (first d e) (x .1) in
+    let z = first-pass d e (y .1) in
+    (w .0, x .0, y .0, z .0, z .1)
+
+-- The checks that rebalancing leaves alone, one by one.
+kept-parts : (name : List ℕ) (st : State) (r : List ℕ) → keptFault name st r ≡ Pass →
+    (charFault (firstBad r) ≡ Pass) × (standing (st .place) (typeIn r) (kindIn r) ≡ Pass) × (badFields (keptFields (kindIn r)) r ≡ Pass) × (numberFault (st .deleghe) (kindIn r) (valueOf r delegaNumber) ≡ Pass) × (ownFault name st (kindIn r) r ≡ Pass)
+unfolding keptFault
+kept-parts name st r e = five-pass _ (standing (st .place) (typeIn r) (kindIn r)) _ _ _ e
+
+-- A record of the same kind gets the same stored fields.
+emit-as : (st : State) (r s : List ℕ) → kindIn s ≡ kindIn r → emit st s ≡ putAll (storedOf st (kindIn r)) s
+unfolding emit
+emit-as st r s e = ap (λ (k : Kind). putAll (storedOf st k) s) e
+
+-- Two states that store the same in a record rebalance it alike.
+pub emit-same-stored : (st st′ : State) (r : List ℕ) → storedOf st (kindIn r) ≡ storedOf st′ (kindIn r) → emit st r ≡ emit st′ r
+unfolding emit
+emit-same-stored st st′ r e = ap (λ (xs : List Stored). putAll xs r) e
+
+-- A record that stores nothing stays.
+pub emit-plain : (st : State) (r : List ℕ) → storedOf st (kindIn r) ≡ [] → emit st r ≡ r
+unfolding emit putAll
+emit-plain st r e = rw e
+
+-- A record that passes the checks that rebalancing leaves alone may stand where it does.
+pub kept-stands : (name : List ℕ) (st : State) (r : List ℕ) → keptFault name st r ≡ Pass → stands (st .place) (kindIn r) ≡ true
+unfolding keptFault standing
+kept-stands name st r e = go (stands (st .place) (kindIn r)) (typeStands (st .place) (typeIn r)) (kept-parts name st r e .1)
+  where
+    go : (t u : Bool) → cond t (cond (full (st .place) (kindIn r)) (Fault 6 11) Pass) (cond u (Fault 4 11) (Fault 4 2)) ≡ Pass → t ≡ true
+    go true u e = refl
+    go false true e = cc
+    go false false e = cc
+
+-- A record of 120 bytes, after the records that led to a state.
+module _ (st : State) (r : List ℕ) (l : length r ≡ 120) where
+  abbrev xs : List Stored
+  xs = storedOf st (kindIn r)
+
+  -- Its stored fields stand apart, outside its type, its delega number and its subtype.
+  places : Columns xs
+  places = columns (storing st r)
+
+  laid-out : laid xs ≡ true
+  laid-out = places .laid-out
+
+  -- It has 120 bytes after rebalancing.
+  pub emit-length : length (emit st r) ≡ 120
+  unfolding emit
+  emit-length = length-putAll xs r laid-out l
+
+  -- Bytes outside its stored fields stay, as a part.
+  pub emit-part : (m n : ℕ) → clear m n (storedOf st (kindIn r)) ≡ true → take n (drop m (emit st r)) ≡ take n (drop m r)
+  unfolding emit
+  emit-part m n e = putAll-clear xs r laid-out l m n e
+
+  -- A byte outside its stored fields stays.
+  pub emit-outside : (c : ℕ) → clear c 1 (storedOf st (kindIn r)) ≡ true → getD (emit st r) c 0 ≡ getD r c 0
+  emit-outside c e = byte-of (emit st r) c ∙ (ap (λ (b : List ℕ). getD b 0 0) (emit-part c 1 e) ∙ sym (byte-of r c))
+
+  -- Its type stays.
+  pub emit-type : typeIn (emit st r) ≡ typeIn r
+  emit-type = ap₂ typeOf (emit-outside 1 (places .first-character)) (emit-outside 2 (places .second-character))
+
+  -- Its kind stays.
+  pub emit-kind : kindIn (emit st r) ≡ kindIn r
+  unfolding kindIn
+  emit-kind = ap₂ kindOf emit-type (ap numberOf (emit-part 10 2 (places .subtype)))
+
+  -- Its delega number stays.
+  pub emit-number : valueOf (emit st r) delegaNumber ≡ valueOf r delegaNumber
+  emit-number = ap (λ (b : List ℕ). amountOf (numberOf b)) (emit-part 3 7 (places .delega-number))
+
+  -- It holds its stored fields after rebalancing.
+  emit-holds : Holds (storedOf st (kindIn r)) (emit st r)
+  unfolding emit
+  emit-holds = putAll-holds xs r laid-out l
+
+  -- What the other checks and the next state read of it stays.
+  emit-kept : (name : List ℕ) → Kept name st (kindIn r) r (emit st r)
+  unfolding emit
+  emit-kept name = kept (storing st r) places name r emit-part
+
+  -- The next state ignores what rebalancing writes.
+  pub next-emit : next st (emit st r) ≡ next st r
+  unfolding next
+  next-emit = rw (emit-kind, emit-kept [] .sums)
+
+  -- Rebalancing a record again changes nothing.
+  pub emit-again : emit st (emit st r) ≡ emit st r
+  emit-again = emit-as st r (emit st r) emit-kind ∙ holds-same xs (emit st r) laid-out emit-length emit-holds
+
+  -- It is made of characters after rebalancing, where it was before.
+  emit-allowed : firstBad r ≡ Allowed → firstBad (emit st r) ≡ Allowed
+  unfolding emit
+  emit-allowed e = putAll-allowed xs r laid-out l (printable-stored (storing st r)) e
+
+  -- Its numeric fields are of digits after rebalancing, where the kept ones are.
+  emit-numbers : fitsAll (storedOf st (kindIn r)) ≡ true → badFields (keptFields (kindIn r)) (emit st r) ≡ Pass → badFields (fieldsOf (kindIn r)) (emit st r) ≡ Pass
+  emit-numbers f e = fields-same (storing st r) (emit st r) .1 (rw e (holds-numbers xs (emit st r) f emit-holds))
+
+  -- A record that passes the checks that rebalancing leaves alone passes all after it, where what is written fits.
+  pub emit-passes : (name : List ℕ) → keptFault name st r ≡ Pass → fitsAll (storedOf st (kindIn r)) ≡ true → fault name st (emit st r) ≡ Pass
+  unfolding fault
+  emit-passes name e f =
+      let a = kept-parts name st r e in
+      let k = emit-kept name in
+      rw (emit-type, emit-kind, emit-number, emit-allowed (allowed-of (firstBad r) (a .0)), a .1, emit-numbers f (k .fields ∙ a .2), a .3, k .own ∙ a .4) (holds-pass xs (emit st r) f emit-holds)
+
+  -- A record that passes every check passes those that rebalancing leaves alone, and its stored fields are of digits and right.
+  fault-parts : (name : List ℕ) → fault name st r ≡ Pass → (keptFault name st r ≡ Pass) × (badFields (valueFields (storedOf st (kindIn r))) r ≡ Pass) × (wrong (storedOf st (kindIn r)) r ≡ Pass)
+  unfolding fault keptFault
+  fault-parts name e =
+      let a = five-pass (charFault (firstBad r)) (standing (st .place) (typeIn r) (kindIn r)) (badFields (fieldsOf (kindIn r)) r) (numberFault (st .deleghe) (kindIn r) (valueOf r delegaNumber)) _ e in
+      let n = first-pass (badFields (keptFields (kindIn r)) r) (badFields (valueFields xs) r) (fields-same (storing st r) r .0 (a .2)) in
+      let w = first-pass (ownFault name st (kindIn r) r) (wrong xs r) (a .4) in
+      (rw (a .0, a .1, n .0, a .3) (w .0), n .1, w .1)
+
+  -- A record that passes every check passes those that rebalancing leaves alone.
+  pub fault-kept : (name : List ℕ) → fault name st r ≡ Pass → keptFault name st r ≡ Pass
+  fault-kept name e = fault-parts name e .0
+
+  -- What rebalancing writes into a record that passes every check fits.
+  pub fault-fits : (name : List ℕ) → fault name st r ≡ Pass → fitsAll (storedOf st (kindIn r)) ≡ true
+  fault-fits name e = pass-fits xs r laid-out l (fault-parts name e .2)
+
+  -- A record that passes every check is its own rebalancing.
+  pub emit-own : (name : List ℕ) → fault name st r ≡ Pass → emit st r ≡ r
+  unfolding emit
+  emit-own name e = let p = fault-parts name e in holds-same xs r laid-out l (pass-holds xs r laid-out l (p .1) (p .2))

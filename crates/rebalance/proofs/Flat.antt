@@ -1,0 +1,48 @@
+-- The bytes of a flow and its records.
+use Prim.Native.Nat.{ℕ, zero, suc, _*_, _/_, _≤_}
+use mathlib.Core.Path.{_≡_, refl, ap, ap₂, _∙_}
+use mathlib.Core.List.{List, [], _∷_, _++_}
+use native.Mathlib.Omega.{arith}
+use lib.ListN.{length, take, drop, length-append, length-drop, take-append-drop}
+use lib.Seq.{take-at, drop-at, length-take-le, drop-append-le, take-append-le}
+use Rattle.judge.specs.Flow.{chunks, recordsOf, headNameOf}
+use Rattle.rebalance.specs.Rebalance.{Sized, flat}
+
+-- Records of 120 bytes have as many bytes together as 120 times their number.
+pub length-flat : (rs : List (List ℕ)) → Sized rs → length (flat rs) ≡ length rs * 120
+unfolding flat
+length-flat [] s = refl
+length-flat (r ∷ rs) s = let e = s .0 in let h = length-flat rs (s .1) in rw length-append (omega arith)
+
+-- Records of 120 bytes are the records of their bytes.
+pub chunks-flat : (rs : List (List ℕ)) → Sized rs → chunks (length rs) (flat rs) ≡ rs
+unfolding chunks flat
+chunks-flat [] s = refl
+chunks-flat (r ∷ rs) s = ap₂ _∷_ (take-at r (flat rs) 120 (s .0)) (ap (chunks (length rs)) (drop-at r (flat rs) 120 (s .0)) ∙ chunks-flat rs (s .1))
+
+-- Records of 120 bytes are the records of the flow that they make.
+pub records-flat : (rs : List (List ℕ)) → Sized rs → recordsOf (flat rs) ≡ rs
+records-flat rs s = let e : length (flat rs) / 120 ≡ length rs = omega (arith, length-flat rs s) in ap (λ (n : ℕ). chunks n (flat rs)) e ∙ chunks-flat rs s
+
+-- A flow of whole records is the bytes of its records.
+pub flat-chunks : (n : ℕ) (s : List ℕ) → length s ≡ n * 120 → flat (chunks n s) ≡ s
+unfolding chunks flat
+flat-chunks zero [] e = refl
+flat-chunks zero (b ∷ s) e = absurd (omega arith)
+flat-chunks (suc n) s e = ap (λ (l : List ℕ). take 120 s ++ l) (flat-chunks n (drop 120 s) (rw length-drop (omega arith))) ∙ take-append-drop 120 s
+
+-- The records of a flow have 120 bytes each.
+pub sized-chunks : (n : ℕ) (s : List ℕ) → n * 120 ≤ length s → Sized (chunks n s)
+unfolding chunks
+sized-chunks zero s h = tt
+sized-chunks (suc n) s h = (length-take-le 120 s (omega arith), sized-chunks n (drop 120 s) (rw length-drop (omega arith)))
+
+-- A flow is cut into as many records as are asked for.
+pub length-chunks : (n : ℕ) (s : List ℕ) → length (chunks n s) ≡ n
+unfolding chunks
+length-chunks zero s = refl
+length-chunks (suc n) s = ap suc (length-chunks n (drop 120 s))
+
+-- The head's name does not depend on what follows the head.
+pub name-in-front : (r ys : List ℕ) → length r ≡ 120 → headNameOf (r ++ ys) ≡ headNameOf r
+name-in-front r ys l = rw (drop-append-le 19 r ys (omega arith)) (take-append-le 20 (drop 19 r) ys (rw length-drop (omega arith)))

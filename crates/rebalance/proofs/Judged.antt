@@ -1,0 +1,87 @@
+-- The law of rebalancing a flow: where it mends the flow's records, the flow is accepted after it with the sums of its lines.
+use Prim.Native.Nat.{ℕ, _*_, _/_, _%_, _<_, _≤_}
+use mathlib.Core.Path.{_≡_, refl, sym, ap, _∙_}
+use mathlib.Core.Bool.{true, false, false≢true}
+use mathlib.Core.List.{List, [], _∷_}
+use native.Mathlib.Omega.{arith}
+use borrow.Author.Tests.{le-ltb, eq-eqb, ne-eqb}
+use lib.ListN.{length}
+use Rattle.layout.specs.declared.Kind.{Kind}
+use Rattle.layout.specs.declared.Kind.the-variants.{Head, Taxpayer, Domicile, Line, Balance, Payment, Receipt, Addressee, Tail, Unknown}
+use Rattle.layout.specs.Kinds.{kindIn}
+use Rattle.rules.specs.declared.Place.{Place}
+use Rattle.rules.specs.declared.State.{State}
+use Rattle.rules.specs.State.{atStart, startState}
+use Rattle.rules.specs.Order.{among, stands}
+use Rattle.rules.specs.Stored.{storedOf}
+use Rattle.rules.specs.Step.{next}
+use Rattle.judge.specs.declared.Verdict.the-variants.{Accepted}
+use Rattle.judge.specs.Flow.{acceptedWith, judgedFrom, recordsOf, headNameOf, judged}
+use Rattle.rebalance.specs.Rebalance.{rebalanced, stateAfter, flat, Sized, Mendable}
+use Rattle.rebalance.proofs.Emit.{emit-plain, kept-stands}
+use Rattle.rebalance.proofs.Rebalanced.{rebalanced-accepted, accepted-own, length-rebalanced, sized-rebalanced}
+use Rattle.rebalance.proofs.Flat.{length-flat, records-flat, flat-chunks, sized-chunks, name-in-front}
+
+-- At the start only the head may stand.
+head-stands : (p : Place) (k : Kind) → p .phase ≡ atStart → stands p k ≡ true → k ≡ Head
+unfolding stands among
+head-stands p Head z e = refl
+head-stands p Taxpayer z e = absurd (false≢true (rw z at e))
+head-stands p Domicile z e = absurd (false≢true (rw z at e))
+head-stands p (Line s) z e = absurd (false≢true (rw z at e))
+head-stands p (Balance s) z e = absurd (false≢true (rw z at e))
+head-stands p Payment z e = absurd (false≢true (rw z at e))
+head-stands p Receipt z e = absurd (false≢true (rw z at e))
+head-stands p Addressee z e = absurd (false≢true (rw z at e))
+head-stands p Tail z e = absurd (false≢true (rw z at e))
+head-stands p Unknown z e = absurd (false≢true e)
+
+-- Rebalancing leaves the name of a flow that begins with its head.
+pub name-kept : (st : State) (r : List ℕ) (rs : List (List ℕ)) → length r ≡ 120 → kindIn r ≡ Head → headNameOf (flat (rebalanced st (r ∷ rs))) ≡ headNameOf (flat (r ∷ rs))
+unfolding rebalanced flat
+name-kept st r rs l e =
+    let p : storedOf st (kindIn r) ≡ [] = rw e in
+    rw (emit-plain st r p, name-in-front r (flat (rebalanced (next st r) rs)) l, name-in-front r (flat rs) l)
+
+-- Rebalancing leaves the name of a flow that it mends.
+pub name-mended : (name : List ℕ) (st : State) (rs : List (List ℕ)) → st .place .phase ≡ atStart → Mendable name st rs → headNameOf (flat (rebalanced st rs)) ≡ headNameOf (flat rs)
+unfolding rebalanced flat
+name-mended name st [] z m = refl
+name-mended name st (r ∷ rs) z m = name-kept st r rs (m .0) (head-stands (st .place) (kindIn r) z (kept-stands name st r (m .1)))
+
+-- A flow of some whole records, of no more than 65,520 bytes, is judged by its records.
+pub judged-whole : (s : List ℕ) → length s ≤ 65520 → 0 < length s → length s % 120 ≡ 0 → judged s ≡ judgedFrom (headNameOf s) startState (recordsOf s)
+unfolding judged
+judged-whole s short some whole = rw (le-ltb 65520 (length s) short, ne-eqb (length s) 0 (λ e. omega arith), eq-eqb (length s % 120) 0 whole)
+
+-- A flow of whole records.
+module _ (s : List ℕ) (whole : length s % 120 ≡ 0) where
+  -- Its records have 120 bytes each.
+  pub sized-records : Sized (recordsOf s)
+  sized-records = sized-chunks (length s / 120) s (omega arith)
+
+  -- Its records make the flow.
+  pub flat-records : flat (recordsOf s) ≡ s
+  flat-records = flat-chunks (length s / 120) s (omega arith)
+
+  -- Rebalancing its records leaves the number of bytes.
+  pub length-mended : (st : State) → length (flat (rebalanced st (recordsOf s))) ≡ length s
+  length-mended st =
+      length-flat (rebalanced st (recordsOf s)) (sized-rebalanced st (recordsOf s) sized-records)
+      ∙ (ap (λ (n : ℕ). n * 120) (length-rebalanced st (recordsOf s)) ∙ (sym (length-flat (recordsOf s) sized-records) ∙ ap length flat-records))
+
+-- A flow of some whole records, of no more than 65,520 bytes.
+module _ (s : List ℕ) (short : length s ≤ 65520) (some : 0 < length s) (whole : length s % 120 ≡ 0) where
+  -- Where rebalancing mends its records, it is accepted after it, with the sums of its lines.
+  pub judged-rebalanced : Mendable (headNameOf s) startState (recordsOf s) → judged (flat (rebalanced startState (recordsOf s))) ≡ acceptedWith (stateAfter startState (recordsOf s))
+  unfolding startState
+  judged-rebalanced m =
+      let rs = recordsOf s in
+      let e : length (flat (rebalanced startState rs)) ≡ length s = length-mended s whole startState in
+      judged-whole (flat (rebalanced startState rs)) (omega arith) (omega arith) (rw e whole)
+      ∙ (rw (name-mended (headNameOf s) startState rs refl m, flat-records s whole, records-flat (rebalanced startState rs) (sized-rebalanced startState rs (sized-records s whole))) (rebalanced-accepted (headNameOf s) startState rs m))
+
+  -- Where it is accepted, rebalancing leaves every byte.
+  pub accepted-untouched : judged s .verdict ≡ Accepted → flat (rebalanced startState (recordsOf s)) ≡ s
+  accepted-untouched a =
+      ap flat (accepted-own (headNameOf s) startState (recordsOf s) (sized-records s whole) (rw (judged-whole s short some whole) at a)) ∙ flat-records s whole

@@ -1,0 +1,11 @@
+pub mod Written
+pub mod Columns
+pub mod Emit
+pub mod Rebalanced
+pub mod Flat
+pub mod Judged
+pub mod Turns
+pub mod Fitting
+pub mod Stores
+pub mod Surveys
+pub mod Passes

@@ -1,0 +1,73 @@
+-- One record of a flow after the other: what a record leaves of the bounds on the state, and what it leaves of the flow.
+use Prim.Native.Nat.{ℕ, suc, _+_, _-_, _*_, _/_, _<_, _≤_}
+use mathlib.Core.Path.{_≡_}
+use mathlib.Core.List.{List, [], _∷_}
+use native.Mathlib.Omega.{arith}
+use native.Mathlib.Nat.{sub-zero}
+use lib.ListN.{length, take, drop, length-drop}
+use lib.Seq.{drop-drop, length-take-le}
+use Rattle.layout.specs.declared.Kind.{Kind}
+use Rattle.layout.specs.declared.Kind.the-variants.{Head, Taxpayer, Domicile, Line, Balance, Payment, Receipt, Addressee, Tail, Unknown}
+use Rattle.layout.specs.Kinds.{kindIn}
+use Rattle.rules.specs.declared.Sums.{Sums}
+use Rattle.rules.specs.declared.State.{State}
+use Rattle.rules.specs.State.{noSums, Small, MoneyBelow, StateBelow}
+use Rattle.rules.specs.Values.{valuesIn}
+use Rattle.rules.specs.Step.{lineSums, nextOf, next}
+use Rattle.rules.proofs.Growth.{money-room, state-on}
+use Rattle.judge.specs.Flow.{chunks, recordsOf, restOf}
+use Rattle.judge.proofs.Turn.{pair-small}
+use Rattle.rebalance.specs.Weigh.{Turn}
+
+-- No amounts are small.
+none-small : Small noSums
+none-small = record { debit-small = omega arith; credit-small = omega arith }
+
+-- The amounts of a record have at most fifteen digits.
+pub sums-small : (k : Kind) (r : List ℕ) → length r ≡ 120 → Small (lineSums k r)
+unfolding valuesIn
+sums-small Head r l = none-small
+sums-small Taxpayer r l = none-small
+sums-small Domicile r l = none-small
+sums-small (Line s) r l = pair-small (Line s) r l
+sums-small (Balance s) r l = none-small
+sums-small Payment r l = none-small
+sums-small Receipt r l = none-small
+sums-small Addressee r l = none-small
+sums-small Tail r l = none-small
+sums-small Unknown r l = none-small
+
+-- The state after a record, by its kind and its amounts.
+pub next-by : (st : State) (k : Kind) (r : List ℕ) (x : Sums) → k ≡ kindIn r → x ≡ lineSums k r → nextOf st k x ≡ next st r
+unfolding next
+next-by st k r x e f = rw (f, ← e)
+
+-- The bounds on a state hold after a record.
+pub next-below : (st : State) (r : List ℕ) → Turn r st → StateBelow (next st r)
+unfolding next
+next-below st r t = state-on st (kindIn r) (lineSums (kindIn r) r) (t .below) (sums-small (kindIn r) r (t .sized))
+
+-- A state of fewer than a thousand records has room for the amounts of one more.
+pub money-fits : (r : List ℕ) (st : State) → Turn r st → MoneyBelow 1_000_000_000_000_000_000 (st .money)
+money-fits r st t = let f = t .few in money-room (st .seen * 1_000_000_000_000_000) _ (st .money) (omega arith) (t .below .money-below)
+
+-- A record of a flow is one of 120 bytes.
+pub record-sized : (s : List ℕ) (n : ℕ) → n < length s / 120 → length (take 120 (drop (n * 120) s)) ≡ 120
+record-sized s n h = length-take-le 120 (drop (n * 120) s) (rw length-drop (omega arith))
+
+-- The records that are left are the next one and those behind it.
+pub rest-on : (s : List ℕ) (n : ℕ) → n < length s / 120 → restOf s n ≡ take 120 (drop (n * 120) s) ∷ restOf s (n + 1)
+unfolding chunks
+rest-on s n h =
+    let e : length s / 120 - n ≡ suc (length s / 120 - (n + 1)) = omega arith in
+    let f : n * 120 + 120 ≡ (n + 1) * 120 = omega arith in
+    rw (e, drop-drop 120 (n * 120) s, f)
+
+-- No record is left behind the last.
+pub rest-end : (s : List ℕ) (n : ℕ) → length s / 120 ≤ n → restOf s n ≡ []
+unfolding chunks
+rest-end s n h = let e : length s / 120 - n ≡ 0 = omega arith in rw e
+
+-- All records are left at the start.
+pub rest-start : (s : List ℕ) → restOf s 0 ≡ recordsOf s
+rest-start s = rw sub-zero

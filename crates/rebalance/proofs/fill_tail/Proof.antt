@@ -1,0 +1,36 @@
+-- `rebalance::fill_tail` meets its contract: each of the three values fits its field, and they are written in the order of their refusals.
+use Prim.Native.Nat.{_+_}
+use mathlib.Core.Path.{ap, _∙_}
+use borrow.Author.Needs.{needs}
+use Rattle.text.specs.Placing.{putAt}
+use Rattle.text.specs.Numbers.{digitsOf}
+use Rattle.rebalance.specs.Rebalance.{putAll}
+use Rattle.rebalance.proofs.Fitting.{tail-fit}
+use Rattle.rebalance.proofs.fill_tail.Statement.{statement}
+use Rattle.rebalance.proofs.fill_tail.Tie as tie
+
+add-records : tie.Need-add-records
+add-records c = search needs
+
+store-requires : tie.Need-store-requires
+store-requires c κs = (search needs, search needs, tail-fit (c .before .before .before .before .args .st) (c .before .before .before .before .pre .2) .0)
+
+store-requires-2 : tie.Need-store-requires-2
+store-requires-2 c κs = search needs
+
+store-requires-3 : tie.Need-store-requires-3
+store-requires-3 c κs = (search needs, search needs, tail-fit (c .before .before .before .before .before .before .before .before .before .before .before .before .args .st) (c .before .before .before .before .before .before .before .before .before .before .before .before .pre .2) .2)
+
+same-length : tie.Need-same-length
+same-length c = search needs
+
+returns : tie.Need-returns
+unfolding putAll
+returns c =
+    let st = c .before .before .before .before .before .before .before .before .before .before .before .before .before .before .before .args .st in
+    c .before .before .store3 .ensures ∙ ap (putAt 52 (digitsOf 15 (st .money .total))) (c .before .before .before .before .before .before .store2 .ensures ∙ ap (putAt 82 (digitsOf 7 (st .seen + 1))) (c .before .before .before .before .before .before .before .before .before .before .store .ensures))
+
+pub fill-tail-spec : {M : Type 1} → statement M
+fill-tail-spec =
+    tie.close
+    (tie.spec add-records store-requires store-requires-2 store-requires-3 same-length returns)

@@ -1,0 +1,2 @@
+pub mod Rebalance
+pub mod Weigh

@@ -1,0 +1,36 @@
+-- What a flow comes to before anything is written: whether some delega is negative; and what a step over one record asks for.
+use Prim.Native.Nat.{ℕ, _<_}
+use mathlib.Core.Path.{_≡_}
+use mathlib.Core.Bool.{Bool, true, false, cond}
+use mathlib.Core.List.{List, [], _∷_}
+use lib.Dec.{ltb}
+use lib.ListN.{length}
+use Rattle.layout.specs.declared.Kind.{Kind}
+use Rattle.layout.specs.declared.Kind.the-variants.{Head, Taxpayer, Domicile, Line, Balance, Payment, Receipt, Addressee, Tail, Unknown}
+use Rattle.layout.specs.Kinds.{kindIn}
+use Rattle.rules.specs.declared.State.{State}
+use Rattle.rules.specs.State.{StateBelow}
+use Rattle.rules.specs.Step.{next}
+
+-- "negative is not": some delega has debits below its credits
+abbrev pub negativeAt : State → Kind → Bool
+negativeAt st Head = false
+negativeAt st Taxpayer = false
+negativeAt st Domicile = false
+negativeAt st (Line s) = false
+negativeAt st (Balance s) = false
+negativeAt st Payment = ltb (st .money .delega .all .debit) (st .money .delega .all .credit)
+negativeAt st Receipt = false
+negativeAt st Addressee = false
+negativeAt st Tail = false
+negativeAt st Unknown = false
+
+unfoldable pub anyNegative : State → List (List ℕ) → Bool
+anyNegative st [] = false
+anyNegative st (r ∷ rs) = cond (negativeAt st (kindIn r)) true (anyNegative (next st r) rs)
+
+-- A record of 120 bytes, and a state that has room for one record more.
+pub record Turn (r : List ℕ) (st : State) : Type 0 where
+  pub sized : length r ≡ 120
+  pub few : st .seen < 1000
+  pub below : StateBelow st

@@ -1,0 +1,4 @@
+pub mod Places
+pub mod Appending
+pub mod SectionLines
+pub mod Samples

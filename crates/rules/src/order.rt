@@ -1,0 +1,161 @@
+// What may stand where, and how many lines a section has: checks 4 and 6.
+ghost use mathlib.Core.Path.{_≡_};
+ghost use mathlib.Core.List.{[], _∷_};
+ghost use Rattle.rules.specs.Order.{among, stands, sectionStands, typeStands, full, standing};
+use crate::Outcome;
+use crate::Place;
+use layout::Kind;
+use layout::RecordType;
+
+fn one_of(x: u8, a: u8, b: u8, c: u8) -> bool
+    ensures { λ r. ⌜ r ≡ among x (a ∷ b ∷ c ∷ []) ⌝ }
+{
+    if x == a {
+        return true;
+    }
+    if x == b {
+        return true;
+    }
+    x == c
+}
+
+fn line_stands(p: Place, s: usize) -> bool
+    ensures { λ r. ⌜ r ≡ stands p (Kind.Line s) ⌝ }
+{
+    let phase = p.phase;
+    let section = p.section;
+    if phase == Place::DOMICILE {
+        return true;
+    }
+    if phase == Place::LINE {
+        return s == section;
+    }
+    if phase == Place::BALANCE {
+        if section < s {
+            return s < 4;
+        }
+    }
+    false
+}
+
+// Whether a record of kind k may stand here, the most lines left aside.
+pub fn may_stand(p: Place, k: Kind) -> bool
+    ensures { λ r. ⌜ r ≡ stands p k ⌝ }
+{
+    let phase = p.phase;
+    let section = p.section;
+    match k {
+        Kind::Head => phase == Place::START,
+        Kind::Taxpayer => {
+            if phase == Place::HEAD {
+                true
+            } else {
+                one_of(phase, Place::PAYMENT, Place::RECEIPT, Place::ADDRESSEE)
+            }
+        }
+        Kind::Domicile => phase == Place::TAXPAYER,
+        Kind::Line(s) => line_stands(p, s),
+        Kind::Balance(s) => {
+            if phase == Place::LINE {
+                s == section
+            } else {
+                false
+            }
+        }
+        Kind::Payment => phase == Place::BALANCE,
+        Kind::Receipt => phase == Place::PAYMENT,
+        Kind::Addressee => phase == Place::RECEIPT,
+        Kind::Tail => one_of(phase, Place::PAYMENT, Place::RECEIPT, Place::ADDRESSEE),
+        Kind::Unknown => false,
+    }
+}
+
+fn section_stands(p: Place, s: usize) -> bool
+    ensures { λ r. ⌜ r ≡ sectionStands p s ⌝ }
+{
+    if may_stand(p, Kind::Line(s)) {
+        return true;
+    }
+    may_stand(p, Kind::Balance(s))
+}
+
+fn forty_stands(p: Place) -> bool
+    ensures { λ r. ⌜ r ≡ typeStands p RecordType.T40 ⌝ }
+{
+    if section_stands(p, 0) {
+        return true;
+    }
+    if section_stands(p, 1) {
+        return true;
+    }
+    if section_stands(p, 2) {
+        return true;
+    }
+    if section_stands(p, 3) {
+        return true;
+    }
+    section_stands(p, 4)
+}
+
+fn fifty_stands(p: Place) -> bool
+    ensures { λ r. ⌜ r ≡ typeStands p RecordType.T50 ⌝ }
+{
+    if may_stand(p, Kind::Payment) {
+        return true;
+    }
+    if may_stand(p, Kind::Receipt) {
+        return true;
+    }
+    may_stand(p, Kind::Addressee)
+}
+
+// Whether a record that may stand here has type t.
+pub fn type_stands(p: Place, t: RecordType) -> bool
+    ensures { λ r. ⌜ r ≡ typeStands p t ⌝ }
+{
+    match t {
+        RecordType::F4 => may_stand(p, Kind::Head),
+        RecordType::T10 => may_stand(p, Kind::Taxpayer),
+        RecordType::T20 => may_stand(p, Kind::Domicile),
+        RecordType::T40 => forty_stands(p),
+        RecordType::T50 => fifty_stands(p),
+        RecordType::EF => may_stand(p, Kind::Tail),
+        RecordType::NoType => false,
+    }
+}
+
+fn is_full(p: Place, k: Kind) -> bool
+    ensures { λ r. ⌜ r ≡ full p k ⌝ }
+{
+    match k {
+        Kind::Head => false,
+        Kind::Taxpayer => false,
+        Kind::Domicile => false,
+        Kind::Line(s) => {
+            let section = layout::section_at(s);
+            section.most_lines <= p.lines
+        }
+        Kind::Balance(_) => false,
+        Kind::Payment => false,
+        Kind::Receipt => false,
+        Kind::Addressee => false,
+        Kind::Tail => false,
+        Kind::Unknown => false,
+    }
+}
+
+// Checks 4 and 6.
+pub fn standing_of(p: Place, t: RecordType, k: Kind) -> Outcome
+    ensures { λ r. ⌜ r ≡ standing p t k ⌝ }
+{
+    if may_stand(p, k) {
+        if is_full(p, k) {
+            return Outcome::Fault(6, 11);
+        }
+        return Outcome::Pass;
+    }
+    if type_stands(p, t) {
+        return Outcome::Fault(4, 11);
+    }
+    Outcome::Fault(4, 2)
+}

@@ -1,0 +1,164 @@
+// The state after a record.
+ghost use mathlib.Core.Path.{_≡_};
+ghost use Prim.Native.Nat.{_<_};
+ghost use Rattle.rules.specs.State.{noSums, placedAt, SumsBelow, MoneyBelow, Small, Room};
+ghost use Rattle.rules.specs.Step.{added, addedAt, nextPlace, nextDeleghe, nextMoney, nextOf};
+use crate::DelegaSums;
+use crate::Money;
+use crate::Place;
+use crate::State;
+use crate::Sums;
+use crate::amounts::final_of;
+use layout::Kind;
+
+// The place after a record of kind k.
+pub fn next_place(p: Place, k: Kind) -> Place
+    requires { ⌜ p .lines < 1000 ⌝ }
+    ensures { λ r. ⌜ r ≡ nextPlace p k ⌝ }
+{
+    match k {
+        Kind::Head => placed(Place::HEAD, 0, 0),
+        Kind::Taxpayer => placed(Place::TAXPAYER, 0, 0),
+        Kind::Domicile => placed(Place::DOMICILE, 0, 0),
+        Kind::Line(s) => placed(Place::LINE, s, p.lines + 1),
+        Kind::Balance(s) => placed(Place::BALANCE, s, 0),
+        Kind::Payment => placed(Place::PAYMENT, 0, 0),
+        Kind::Receipt => placed(Place::RECEIPT, 0, 0),
+        Kind::Addressee => placed(Place::ADDRESSEE, 0, 0),
+        Kind::Tail => placed(Place::TAIL, 0, 0),
+        Kind::Unknown => p,
+    }
+}
+
+fn placed(phase: u8, section: usize, lines: u64) -> Place
+    ensures { λ r. ⌜ r ≡ placedAt phase section lines ⌝ }
+{
+    Place {
+        phase,
+        section,
+        lines,
+    }
+}
+
+// How many deleghe have been opened after a record of kind k.
+pub fn next_deleghe(d: u64, k: Kind) -> u64
+    requires { ⌜ d < 1000 ⌝ }
+    ensures { λ r. ⌜ r ≡ nextDeleghe d k ⌝ }
+{
+    match k {
+        Kind::Head => d,
+        Kind::Taxpayer => d + 1,
+        Kind::Domicile => d,
+        Kind::Line(_) => d,
+        Kind::Balance(_) => d,
+        Kind::Payment => d,
+        Kind::Receipt => d,
+        Kind::Addressee => d,
+        Kind::Tail => d,
+        Kind::Unknown => d,
+    }
+}
+
+// A line's amounts added to a debit and a credit sum.
+fn plus(t: Sums, x: Sums) -> Sums
+    requires { ⌜ Room t × Small x ⌝ }
+    ensures { λ r. ⌜ r ≡ added t x ⌝ }
+{
+    Sums {
+        debit: t.debit + x.debit,
+        credit: t.credit + x.credit,
+    }
+}
+
+// A line's amounts added to the sums of its section: one element changed.
+fn plus_at(sums: [Sums; 5], s: usize, x: Sums) -> [Sums; 5]
+    requires { ⌜ SumsBelow 1_000_000_000_000_000_000 sums × Small x ⌝ }
+    ensures { λ r. ⌜ r ≡ addedAt sums s x ⌝ }
+{
+    let mut out = sums;
+    if s < 5 {
+        out[s] = plus(sums[s], x);
+    }
+    out
+}
+
+fn line_money(m: Money, s: usize, x: Sums) -> Money
+    requires { ⌜ MoneyBelow 1_000_000_000_000_000_000 m × Small x ⌝ }
+    ensures { λ r. ⌜ r ≡ nextMoney m (Kind.Line s) x ⌝ }
+{
+    let delega = m.delega;
+    let before = delega.sections;
+    let sections = plus_at(before, s, x);
+    let all = plus(delega.all, x);
+    let so_far = m.flow;
+    let flow = plus_at(so_far, s, x);
+    Money {
+        delega: DelegaSums { sections, all },
+        flow,
+        total: m.total,
+    }
+}
+
+fn payment_money(m: Money) -> Money
+    requires { ⌜ MoneyBelow 1_000_000_000_000_000_000 m ⌝ }
+    ensures { λ r. ⌜ r ≡ nextMoney m Kind.Payment noSums ⌝ }
+{
+    let open = m.delega;
+    let flow = m.flow;
+    let total = m.total + final_of(open.all);
+    let delega = DelegaSums::zero();
+    Money {
+        delega,
+        flow,
+        total,
+    }
+}
+
+fn opened_money(m: Money) -> Money
+    ensures { λ r. ⌜ r ≡ nextMoney m Kind.Taxpayer noSums ⌝ }
+{
+    let flow = m.flow;
+    let delega = DelegaSums::zero();
+    Money {
+        delega,
+        flow,
+        total: m.total,
+    }
+}
+
+fn next_money(m: Money, k: Kind, x: Sums) -> Money
+    requires { ⌜ MoneyBelow 1_000_000_000_000_000_000 m × Small x ⌝ }
+    ensures { λ r. ⌜ r ≡ nextMoney m k x ⌝ }
+{
+    match k {
+        Kind::Head => m,
+        Kind::Taxpayer => opened_money(m),
+        Kind::Domicile => m,
+        Kind::Line(s) => line_money(m, s, x),
+        Kind::Balance(_) => m,
+        Kind::Payment => payment_money(m),
+        Kind::Receipt => m,
+        Kind::Addressee => m,
+        Kind::Tail => m,
+        Kind::Unknown => m,
+    }
+}
+
+// The state after a record of kind k, which, if it is a line, has the amounts x.
+pub fn next_state(st: State, k: Kind, x: Sums) -> State
+    requires { ⌜ MoneyBelow 1_000_000_000_000_000_000 (st .money) × Small x ⌝ }
+    requires { ⌜ (st .place .lines < 1000) × (st .deleghe < 1000) × (st .seen < 1000) ⌝ }
+    ensures { λ r. ⌜ r ≡ nextOf st k x ⌝ }
+{
+    let place = st.place;
+    let money = st.money;
+    let p = next_place(place, k);
+    let d = next_deleghe(st.deleghe, k);
+    let m = next_money(money, k, x);
+    State {
+        place: p,
+        deleghe: d,
+        money: m,
+        seen: st.seen + 1,
+    }
+}

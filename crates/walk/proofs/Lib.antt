@@ -1,0 +1,4 @@
+pub mod Records
+pub mod EachRecord
+pub mod Refusals
+pub mod OneStep

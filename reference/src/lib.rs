@@ -1,0 +1,257 @@
+//! A judge for CBI F24 payment flows, after the rules of document 01, with
+//! the columns of CBI-F24-001. Words in quotation marks are those rules'.
+//!
+//! Every input is taken, of every length and value. Sums can't overflow: a
+//! flow has at most 546 records with amounts below 10^15.
+
+mod digits;
+mod judgement;
+mod layout;
+#[cfg(test)]
+mod tests;
+
+use digits::write_fifteen;
+use judgement::{Judgement, Step};
+use layout::*;
+use std::fmt;
+
+/// "A refusal is a number, a record counted from 1, and a position."
+#[derive(Clone, Copy, PartialEq, Eq, Debug)]
+pub struct Refusal {
+    pub number: u8,
+    pub record: usize,
+    pub position: usize,
+}
+
+impl Refusal {
+    /// A refusal with record 0 and position 0.
+    fn nowhere(number: u8) -> Self {
+        Refusal {
+            number,
+            record: 0,
+            position: 0,
+        }
+    }
+}
+
+/// "A refusal prints one line: REFUSED, number, record, position."
+impl fmt::Display for Refusal {
+    fn fmt(&self, f: &mut fmt::Formatter<'_>) -> fmt::Result {
+        write!(
+            f,
+            "REFUSED {} {} {}",
+            self.number, self.record, self.position
+        )
+    }
+}
+
+impl std::error::Error for Refusal {}
+
+/// "An accepted flow answers the number of deleghe, the number of records, the
+/// sum of final balances, and the debit and credit sums for each of the five
+/// sections over the flow."
+#[derive(Clone, Copy, PartialEq, Eq, Debug)]
+pub struct Summary {
+    pub deleghe: u64,
+    pub records: usize,
+    pub total: u64,
+    /// Debit and credit, in the order 01, 03, 05, 07, 17.
+    pub sums: [(u64, u64); 5],
+}
+
+/// "For one delega its final balance and its ten section sums are given".
+#[derive(Clone, Copy, PartialEq, Eq, Debug)]
+pub struct DelegaSums {
+    pub final_balance: u64,
+    /// Debit and credit, in the order 01, 03, 05, 07, 17.
+    pub sums: [(u64, u64); 5],
+}
+
+/// Judges a flow.
+pub fn judge(flow: &[u8]) -> Result<Summary, Refusal> {
+    judge_watched(flow, |_| ())
+}
+
+/// The sums of one delega: "a number that is 0 or above the count is refused 21".
+pub fn delega(flow: &[u8], number: u64) -> Result<DelegaSums, Refusal> {
+    let mut found = None;
+    judge_watched(flow, |judgement| {
+        if judgement.step == Step::Payment && judgement.deleghe == number {
+            found = delega_sums(judgement.delega);
+        }
+    })?;
+    found.ok_or(Refusal::nowhere(21))
+}
+
+/// The record, counted from 1, of a line "named by delega number, line subtype
+/// and its place in the section, counted from 1".
+pub fn find(flow: &[u8], delega: u64, subtype: u64, place: u64) -> Result<usize, Refusal> {
+    let (_, found) = locate(flow, delega, subtype, place)?;
+    Ok(found.line)
+}
+
+/// Gives one line new amounts, in place. "A correction then tries 21, 22, 9,
+/// 14, 23 in this order"; a refusal leaves the flow as it came.
+pub fn correct(
+    flow: &mut [u8],
+    delega: u64,
+    subtype: u64,
+    place: u64,
+    debit: u64,
+    credit: u64,
+) -> Result<(), Refusal> {
+    let (summary, found) = locate(flow, delega, subtype, place)?;
+    let section = &SECTIONS[found.section];
+    if debit > MOST_AMOUNT || credit > MOST_AMOUNT {
+        return Err(Refusal::nowhere(22));
+    }
+    if section.wrong_amount(debit, credit).is_some() {
+        return Err(Refusal::nowhere(9));
+    }
+
+    // Sums change "by new less old".
+    let (old_debit, old_credit) = found.amounts;
+    let mut sums = found.delega.sums;
+    let (debits, credits) = &mut sums[found.section];
+    *debits = *debits - old_debit + debit;
+    *credits = *credits - old_credit + credit;
+    let (debits, credits) = (*debits, *credits);
+
+    let new = delega_sums(sums).ok_or(Refusal::nowhere(14))?;
+    let balance = debits.abs_diff(credits);
+    let total = summary.total - found.delega.final_balance + new.final_balance;
+
+    let totals_fit = section.totals_at.is_none() || debits.max(credits) <= MOST_AMOUNT;
+    let others_fit = [balance, new.final_balance, total]
+        .iter()
+        .all(|&value| value <= MOST_AMOUNT);
+    if !totals_fit || !others_fit {
+        return Err(Refusal::nowhere(23));
+    }
+
+    // "The line's debit and credit; totals, sign and balance of that section's
+    // balance record; the final balance of that delega; the sum in EF. Nothing
+    // else".
+    let line = record_mut(flow, found.line);
+    write_fifteen(line, section.debit_at, debit);
+    write_fifteen(line, section.credit_at, credit);
+
+    let closing = record_mut(flow, found.balance);
+    if let Some((debit_at, credit_at)) = section.totals_at {
+        write_fifteen(closing, debit_at, debits);
+        write_fifteen(closing, credit_at, credits);
+    }
+    closing[section.sign_at - 1] = sign(debits, credits);
+    write_fifteen(closing, section.balance_at, balance);
+
+    write_fifteen(
+        record_mut(flow, found.payment),
+        FINAL_BALANCE,
+        new.final_balance,
+    );
+    write_fifteen(record_mut(flow, summary.records), TAIL_SUM, total);
+    Ok(())
+}
+
+/// Judges a flow in one pass and lets `watch` see the state after each record.
+fn judge_watched(flow: &[u8], mut watch: impl FnMut(&Judgement)) -> Result<Summary, Refusal> {
+    // "Refusals 1 and 2 come first."
+    if flow.len() > MOST_BYTES {
+        return Err(Refusal::nowhere(1));
+    }
+    if flow.is_empty() || flow.len() % RECORD != 0 {
+        return Err(Refusal::nowhere(2));
+    }
+
+    let mut judgement = Judgement::new();
+    for record in flow.chunks_exact(RECORD) {
+        let record: &Record = record.try_into().expect("a chunk is a record long");
+        judgement.take(record).map_err(|fault| Refusal {
+            number: fault.number,
+            record: judgement.records,
+            position: fault.position,
+        })?;
+        watch(&judgement);
+    }
+
+    // "Refusal 5 comes after all records have passed."
+    if judgement.step != Step::Tail {
+        return Err(Refusal {
+            number: 5,
+            record: judgement.records + 1,
+            position: 0,
+        });
+    }
+    Ok(Summary {
+        deleghe: judgement.deleghe,
+        records: judgement.records,
+        total: judgement.total,
+        sums: judgement.flow,
+    })
+}
+
+/// A line and all that hangs on it; records are counted from 1.
+struct Located {
+    section: usize,
+    line: usize,
+    amounts: (u64, u64),
+    balance: usize,
+    payment: usize,
+    delega: DelegaSums,
+}
+
+/// "Every call on a flow judges it first and gives that refusal if there is
+/// one", then 21 for "no such delega, section or line".
+fn locate(
+    flow: &[u8],
+    delega: u64,
+    subtype: u64,
+    place: u64,
+) -> Result<(Summary, Located), Refusal> {
+    let section = SECTIONS
+        .iter()
+        .position(|section| section.number == subtype);
+    let mut line = None;
+    let mut balance = None;
+    let mut payment = None;
+    let summary = judge_watched(flow, |judgement| {
+        if judgement.deleghe != delega {
+            return;
+        }
+        match judgement.step {
+            Step::Line(index) if Some(index) == section && judgement.lines == place => {
+                line = Some((index, judgement.records, judgement.amounts));
+            }
+            Step::Balance(index) if Some(index) == section => balance = Some(judgement.records),
+            Step::Payment => payment = Some((judgement.records, judgement.delega)),
+            _ => (),
+        }
+    })?;
+    let located = || {
+        let (section, line, amounts) = line?;
+        let (payment, sums) = payment?;
+        Some(Located {
+            section,
+            line,
+            amounts,
+            balance: balance?,
+            payment,
+            delega: delega_sums(sums)?,
+        })
+    };
+    let located = located().ok_or(Refusal::nowhere(21))?;
+    Ok((summary, located))
+}
+
+/// A delega's sums with its final balance, or `None` if that is negative.
+fn delega_sums(sums: Sums) -> Option<DelegaSums> {
+    final_balance(&sums).map(|final_balance| DelegaSums {
+        final_balance,
+        sums,
+    })
+}
+
+/// The record with this number, counted from 1.
+fn record_mut(flow: &mut [u8], number: usize) -> &mut [u8] {
+    &mut flow[(number - 1) * RECORD..number * RECORD]
+}

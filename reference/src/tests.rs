@@ -1,0 +1,1026 @@
+//! The examples of document 01, its refusals one by one, and corrections
+//! compared with flows built anew.
+
+use super::layout::{final_balance, sign, Record, SECTIONS};
+use super::*;
+
+// ---------------------------------------------------------------- building
+
+/// Line subtype and the lines' debits and credits.
+type Built<'a> = (u64, &'a [(u64, u64)]);
+
+fn put(record: &mut [u8], position: usize, text: &str) {
+    record[position - 1..position - 1 + text.len()].copy_from_slice(text.as_bytes());
+}
+
+fn put_amount(record: &mut [u8], position: usize, amount: u64) {
+    put(record, position, &format!("{amount:015}"));
+}
+
+fn blank(kind: &str) -> Record {
+    let mut record = [b' '; 120];
+    put(&mut record, 2, kind);
+    record
+}
+
+fn head() -> Record {
+    let mut record = blank("F4");
+    put(&mut record, 4, "SENDR03069");
+    put(&mut record, 14, "311299");
+    put(&mut record, 20, "SUPPORT-NAME 0000001");
+    put(&mut record, 105, "2$SENDR");
+    put(&mut record, 114, "E");
+    record
+}
+
+fn tail(deleghe: u64, records: usize, sum: u64) -> Record {
+    let mut record = blank("EF");
+    put(&mut record, 4, "SENDR03069311299");
+    put(&mut record, 20, "SUPPORT-NAME 0000001");
+    put(&mut record, 46, &format!("{deleghe:07}{sum:015}"));
+    put(&mut record, 83, &format!("{records:07}"));
+    put(&mut record, 114, "E");
+    record
+}
+
+/// A record 10, 20, 40 or 50, all fields but the number and subtype blank.
+fn numbered(kind: &str, delega: u64, subtype: &str) -> Record {
+    let mut record = blank(kind);
+    put(&mut record, 4, &format!("{delega:07}{subtype}"));
+    record
+}
+
+fn line(delega: u64, subtype: u64, (debit, credit): (u64, u64)) -> Record {
+    let (debit_at, credit_at) = match subtype {
+        1 => (27, 42),
+        3 => (52, 67),
+        5 => (29, 44),
+        7 => (31, 46),
+        _ => (41, 56),
+    };
+    let mut record = numbered("40", delega, &format!("{subtype:02}"));
+    put_amount(&mut record, debit_at, debit);
+    put_amount(&mut record, credit_at, credit);
+    record
+}
+
+fn balance(delega: u64, subtype: u64, lines: &[(u64, u64)]) -> Record {
+    let (debits, credits) = sum(lines);
+    let mut record = numbered("40", delega, &format!("{:02}", subtype + 1));
+    let (totals_at, sign_at) = match subtype {
+        1 | 3 => (Some((13, 28)), 43),
+        5 => (Some((15, 30)), 45),
+        7 => (Some((17, 32)), 47),
+        _ => (None, 43),
+    };
+    if let Some((debit_at, credit_at)) = totals_at {
+        put_amount(&mut record, debit_at, debits);
+        put_amount(&mut record, credit_at, credits);
+    }
+    let (sign, balance) = if debits < credits {
+        ("N", credits - debits)
+    } else {
+        ("P", debits - credits)
+    };
+    put(&mut record, sign_at, sign);
+    put_amount(&mut record, sign_at + 1, balance);
+    record
+}
+
+fn payment(delega: u64, final_balance: u64) -> Record {
+    let mut record = numbered("50", delega, "01");
+    put_amount(&mut record, 36, final_balance);
+    record
+}
+
+fn sum(lines: &[(u64, u64)]) -> (u64, u64) {
+    (
+        lines.iter().map(|line| line.0).sum(),
+        lines.iter().map(|line| line.1).sum(),
+    )
+}
+
+fn section(delega: u64, (subtype, lines): Built) -> Vec<Record> {
+    let mut records: Vec<Record> = lines
+        .iter()
+        .map(|&amounts| line(delega, subtype, amounts))
+        .collect();
+    records.push(balance(delega, subtype, lines));
+    records
+}
+
+/// A delega's records and its final balance; a negative one is stored as zero.
+fn delega_records(delega: u64, sections: &[Built]) -> (Vec<Record>, u64) {
+    let mut records = vec![numbered("10", delega, ""), numbered("20", delega, "")];
+    let (mut debits, mut credits) = (0, 0);
+    for &built in sections {
+        records.extend(section(delega, built));
+        debits += sum(built.1).0;
+        credits += sum(built.1).1;
+    }
+    let due = debits.saturating_sub(credits);
+    records.push(payment(delega, due));
+    (records, due)
+}
+
+fn whole(deleghe: &[&[Built]]) -> Vec<u8> {
+    let mut records = vec![head()];
+    let mut total = 0;
+    for (number, sections) in (1..).zip(deleghe) {
+        let (more, due) = delega_records(number, sections);
+        records.extend(more);
+        total += due;
+    }
+    records.push(tail(deleghe.len() as u64, records.len() + 1, total));
+    records.concat()
+}
+
+/// The flow of one delega with one section.
+fn one(subtype: u64, lines: &[(u64, u64)]) -> Vec<u8> {
+    whole(&[&[(subtype, lines)]])
+}
+
+/// The flow with `text` at a position of a record.
+fn with(mut flow: Vec<u8>, record: usize, position: usize, text: &str) -> Vec<u8> {
+    put(&mut flow, (record - 1) * 120 + position, text);
+    flow
+}
+
+fn refused(number: u8, record: usize, position: usize) -> Refusal {
+    Refusal {
+        number,
+        record,
+        position,
+    }
+}
+
+#[track_caller]
+fn assert_refused(flow: &[u8], number: u8, record: usize, position: usize) {
+    assert_eq!(judge(flow), Err(refused(number, record, position)));
+}
+
+/// Records: 1 F4, 2 10, 3 20, 4 and 5 40-05, 6 40-06, 7 50-01, 8 EF.
+fn example() -> Vec<u8> {
+    one(5, &[(10000, 0), (0, 2500)])
+}
+
+// ---------------------------------------------------------------- examples
+
+#[test]
+fn sums_give_sign_and_balance() {
+    let facts = [
+        ((5, 5), b'P', 0),
+        ((10000, 2500), b'P', 7500),
+        ((2500, 10000), b'N', 7500),
+        ((0, 1), b'N', 1),
+        ((999_999_999_999_999, 0), b'P', 999_999_999_999_999),
+    ];
+    for ((debits, credits), expected, balance) in facts {
+        assert_eq!(sign(debits, credits), expected);
+        assert_eq!(u64::abs_diff(debits, credits), balance);
+    }
+}
+
+#[test]
+fn line_rule() {
+    let [erario, inps, regioni, imu, identifying] = &SECTIONS;
+    assert_eq!(regioni.wrong_amount(0, 0), Some(29));
+    assert_eq!(regioni.wrong_amount(5, 5), None);
+    assert_eq!(identifying.wrong_amount(100, 1), Some(56));
+    assert_eq!(identifying.wrong_amount(0, 5), Some(56));
+    assert_eq!(identifying.wrong_amount(0, 0), Some(41));
+    assert_eq!(identifying.wrong_amount(5, 0), None);
+    for section in [erario, inps, regioni, imu] {
+        assert_eq!(section.wrong_amount(0, 0), Some(section.debit_at));
+        assert_eq!(section.wrong_amount(1, 0), None);
+        assert_eq!(section.wrong_amount(0, 1), None);
+        assert_eq!(section.wrong_amount(1, 1), None);
+    }
+}
+
+#[test]
+fn final_balance_is_debits_less_credits() {
+    assert_eq!(
+        final_balance(&[(0, 5), (7, 0), (0, 0), (0, 2), (0, 0)]),
+        Some(0)
+    );
+    assert_eq!(
+        final_balance(&[(0, 5), (7, 0), (0, 0), (0, 3), (0, 0)]),
+        None
+    );
+}
+
+#[test]
+fn the_printed_example() {
+    let summary = Summary {
+        deleghe: 1,
+        records: 8,
+        total: 7500,
+        sums: [(0, 0), (0, 0), (10000, 2500), (0, 0), (0, 0)],
+    };
+    assert_eq!(judge(&example()), Ok(summary));
+}
+
+#[test]
+fn a_refusal_prints_one_line() {
+    assert_eq!(refused(4, 2, 11).to_string(), "REFUSED 4 2 11");
+}
+
+#[test]
+fn blank_is_not_zero() {
+    assert_refused(&with(example(), 4, 29, "00000000000750 "), 7, 4, 29);
+    assert_refused(&with(example(), 4, 44, "               "), 7, 4, 44);
+}
+
+#[test]
+fn lines_beyond_the_most() {
+    for (subtype, most) in [(1, 6), (3, 4), (5, 4), (7, 4), (17, 28)] {
+        assert!(judge(&one(subtype, &vec![(1, 0); most])).is_ok());
+        let more = vec![(1, 0); most + 1];
+        assert_refused(&one(subtype, &more), 6, 3 + most + 1, 11);
+    }
+    // The count starts anew in each section and each delega.
+    let full: &[Built] = &[(1, &[(1, 0); 6]), (3, &[(1, 0); 4]), (5, &[(1, 0); 4])];
+    assert!(judge(&whole(&[full, full])).is_ok());
+}
+
+#[test]
+fn line_amounts() {
+    assert_refused(&one(5, &[(0, 0)]), 9, 4, 29);
+    assert_refused(&one(17, &[(0, 5)]), 9, 4, 56);
+    assert_refused(&one(17, &[(100, 1)]), 9, 4, 56);
+    assert_refused(&one(17, &[(0, 0)]), 9, 4, 41);
+    assert_refused(&one(1, &[(5, 0), (0, 0)]), 9, 5, 27);
+    assert_refused(&one(3, &[(0, 0)]), 9, 4, 52);
+    assert_refused(&one(7, &[(0, 0)]), 9, 4, 31);
+    for subtype in [1, 3, 5, 7] {
+        assert!(judge(&one(subtype, &[(5, 5)])).is_ok());
+    }
+}
+
+#[test]
+fn lengths() {
+    let short: &[Built] = &[(5, &[(1, 0)])];
+    let mut deleghe = vec![short; 107];
+    deleghe.push(&[(1, &[(1, 0); 5])]);
+    let mut longest = whole(&deleghe);
+    assert_eq!(longest.len(), 65_520);
+    let summary = judge(&longest).unwrap();
+    assert_eq!(
+        (summary.deleghe, summary.records, summary.total),
+        (108, 546, 112)
+    );
+
+    longest.push(b' ');
+    assert_refused(&longest, 1, 0, 0);
+    assert_refused(&vec![b' '; 65_640], 1, 0, 0);
+    assert_refused(&vec![0; 65_520], 3, 1, 1);
+    assert_refused(&[b' '; 119], 2, 0, 0);
+    assert_refused(&[b' '; 121], 2, 0, 0);
+    assert_refused(&[], 2, 0, 0);
+}
+
+#[test]
+fn head_then_tail() {
+    assert_refused(&[head(), tail(0, 2, 0)].concat(), 4, 2, 2);
+}
+
+#[test]
+fn a_negative_section_and_a_negative_delega() {
+    let regioni: Built = (5, &[(2500, 0), (0, 10000)]);
+    let sound = whole(&[&[(1, &[(7500, 0)]), regioni]]);
+    assert_eq!(judge(&sound).unwrap().total, 0);
+    assert_eq!(sound[7 * 120 + 44], b'N');
+    let negative = whole(&[&[(1, &[(7499, 0)]), regioni]]);
+    assert_refused(&negative, 14, 9, 2);
+    // Whatever is stored, 14 comes after 7 and 8 and before 15.
+    assert_refused(&with(negative.clone(), 9, 36, "000000000000001"), 14, 9, 2);
+    assert_refused(&with(negative.clone(), 9, 36, "00000000000000 "), 7, 9, 36);
+    assert_refused(&with(negative, 9, 4, "0000002"), 8, 9, 4);
+}
+
+#[test]
+fn a_total_that_needs_sixteen_digits() {
+    let mut flow = one(5, &[(999_999_999_999_999, 0), (0, 1)]);
+    let before = flow.clone();
+    assert_eq!(correct(&mut flow, 1, 5, 2, 1, 0), Err(refused(23, 0, 0)));
+    assert_eq!(flow, before);
+}
+
+// ------------------------------------------------------- characters, order
+
+#[test]
+fn characters_are_judged_record_by_record() {
+    assert_refused(&with(example(), 1, 1, "\u{1}"), 3, 1, 1);
+    assert_refused(&with(example(), 8, 120, "\n"), 3, 8, 120);
+    assert_refused(&with(example(), 3, 2, "\u{7f}"), 3, 3, 2);
+    // The first such byte, and that of an earlier record before any other.
+    assert_refused(
+        &with(with(example(), 5, 90, "\t"), 5, 60, "\u{1f}"),
+        3,
+        5,
+        60,
+    );
+    assert_refused(&with(with(example(), 5, 90, "\t"), 4, 29, " "), 7, 4, 29);
+    for byte in 0..=255 {
+        let mut flow = example();
+        flow[3 * 120 + 59] = byte;
+        match byte {
+            32..=126 => assert!(judge(&flow).is_ok()),
+            _ => assert_refused(&flow, 3, 4, 60),
+        }
+    }
+}
+
+/// Each state's records and what may stand after them.
+fn states() -> Vec<(Vec<Record>, &'static [&'static str])> {
+    const LINES: &[(u64, u64)] = &[(1, 0)];
+    let opened = vec![head(), numbered("10", 1, ""), numbered("20", 1, "")];
+    let after_line = |subtype| [opened.clone(), vec![line(1, subtype, (1, 0))]].concat();
+    let after_section = |subtype| [opened.clone(), section(1, (subtype, LINES))].concat();
+    let paid = [after_section(5), vec![payment(1, 1)]].concat();
+    let receipt = [paid.clone(), vec![numbered("50", 1, "02")]].concat();
+    let addressee = [receipt.clone(), vec![numbered("50", 1, "03")]].concat();
+    let ended = [paid.clone(), vec![tail(1, paid.len() + 1, 1)]].concat();
+    vec![
+        (vec![], &["F4"]),
+        (opened[..1].to_vec(), &["10"]),
+        (opened[..2].to_vec(), &["20"]),
+        (
+            opened.clone(),
+            &["40-01", "40-03", "40-05", "40-07", "40-17"],
+        ),
+        (after_line(1), &["40-01", "40-02"]),
+        (after_line(3), &["40-03", "40-04"]),
+        (after_line(5), &["40-05", "40-06"]),
+        (after_line(7), &["40-07", "40-08"]),
+        (after_line(17), &["40-17", "40-18"]),
+        (after_section(1), &["40-03", "40-05", "40-07", "50-01"]),
+        (after_section(3), &["40-05", "40-07", "50-01"]),
+        (after_section(5), &["40-07", "50-01"]),
+        (after_section(7), &["50-01"]),
+        (after_section(17), &["50-01"]),
+        (paid, &["50-02", "10", "EF"]),
+        (receipt, &["50-03", "10", "EF"]),
+        (addressee, &["10", "EF"]),
+        (ended, &[]),
+    ]
+}
+
+#[test]
+fn what_may_stand_where() {
+    let mut candidates: Vec<String> = ["F4", "10", "20", "EF", "  ", "4 ", "f4", "Q4"]
+        .map(String::from)
+        .to_vec();
+    for kind in ["40", "50"] {
+        candidates.extend((0..=99).map(|subtype| format!("{kind}-{subtype:02}")));
+        candidates.extend(["  ", "1 ", " 1", "AA"].map(|subtype| format!("{kind}-{subtype}")));
+    }
+    for (records, may_stand) in states() {
+        for candidate in &candidates {
+            let (kind, subtype) = candidate.split_at(2);
+            // Digits fill the record: they are sound in every numeric field.
+            let mut record = [b'0'; 120];
+            put(&mut record, 2, kind);
+            put(&mut record, 11, subtype.strip_prefix('-').unwrap_or(""));
+            let number = records.len() + 1;
+            let answer = judge(&[records.concat(), record.to_vec()].concat());
+            if may_stand.contains(&candidate.as_str()) {
+                let passed = match answer {
+                    Ok(_) => true,
+                    Err(refusal) => refusal.record >= number && refusal.number != 4,
+                };
+                assert!(passed, "{candidate} after {may_stand:?}: {answer:?}");
+            } else {
+                let same_type = may_stand.iter().any(|other| other.starts_with(kind));
+                let position = if same_type { 11 } else { 2 };
+                assert_eq!(
+                    answer,
+                    Err(refused(4, number, position)),
+                    "{candidate} where {may_stand:?} may stand"
+                );
+            }
+        }
+    }
+}
+
+#[test]
+fn records_that_end_before_the_tail() {
+    let sound = example();
+    for records in 1..8 {
+        assert_refused(&sound[..records * 120], 5, records + 1, 0);
+    }
+    assert_refused(&with(head().to_vec(), 1, 14, "320199"), 17, 1, 14);
+}
+
+#[test]
+fn nothing_after_the_tail() {
+    for record in [head(), numbered("10", 2, ""), tail(1, 9, 7500)] {
+        assert_refused(&[example(), record.to_vec()].concat(), 4, 9, 2);
+    }
+    // The count is compared with EF's own record number: 19 comes first.
+    let flow = with(example(), 8, 83, "0000009");
+    assert_refused(&[flow, head().to_vec()].concat(), 19, 8, 83);
+}
+
+#[test]
+fn receipts_are_judged_by_number_alone() {
+    let mut records = vec![head()];
+    for delega in 1..=3 {
+        records.extend(delega_records(delega, &[(7, &[(9, 4)])]).0);
+        records.extend((1..delega).map(|more| numbered("50", delega, &format!("0{}", more + 1))));
+    }
+    records.push(tail(3, records.len() + 1, 15));
+    let flow = records.concat();
+    let summary = judge(&flow).unwrap();
+    assert_eq!(
+        (summary.deleghe, summary.records, summary.total),
+        (3, 20, 15)
+    );
+    assert_refused(&with(flow.clone(), 18, 4, "000000 "), 7, 18, 4);
+    assert_refused(&with(flow.clone(), 19, 4, "000000 "), 7, 19, 4);
+    assert_refused(&with(flow.clone(), 18, 4, "0000002"), 8, 18, 4);
+    assert_refused(&with(flow.clone(), 19, 4, "0000004"), 8, 19, 4);
+    assert_eq!(judge(&with(flow, 18, 13, "any other content")), Ok(summary));
+}
+
+#[test]
+fn the_first_fault_by_record_then_by_number() {
+    // 9 in record 4 before 7 in record 5, 7 in a record before its 8 and 9.
+    let flow = with(one(5, &[(0, 0), (0, 1)]), 5, 29, "x");
+    assert_refused(&flow, 9, 4, 29);
+    let flow = with(one(5, &[(0, 0)]), 4, 4, "0000009");
+    assert_refused(&flow, 8, 4, 4);
+    assert_refused(&with(flow.clone(), 4, 44, "x"), 7, 4, 44);
+    assert_refused(&with(flow.clone(), 4, 10, "x"), 7, 4, 4);
+    // 6 before 7.
+    let flow = with(one(5, &[(1, 0); 5]), 8, 4, "x");
+    assert_refused(&flow, 6, 8, 11);
+}
+
+// ---------------------------------------------------------------- numbers
+
+#[test]
+fn delega_numbers() {
+    let part: &[Built] = &[(3, &[(1, 0)])];
+    let flow = whole(&[part, part]);
+    assert!(judge(&flow).is_ok());
+    // Each record of both deleghe: 2 to 6 and 7 to 11.
+    for record in 2..=11 {
+        for wrong in ["0000000", "0000003", "9999999"] {
+            assert_refused(&with(flow.clone(), record, 4, wrong), 8, record, 4);
+        }
+        assert_refused(&with(flow.clone(), record, 4, " 000001"), 7, record, 4);
+    }
+    assert_refused(&with(flow.clone(), 7, 4, "0000001"), 8, 7, 4);
+    assert_refused(&with(flow, 6, 4, "0000002"), 8, 6, 4);
+}
+
+#[test]
+fn numeric_fields() {
+    let all: &[Built] = &[
+        (1, &[(9, 0)]),
+        (3, &[(9, 0)]),
+        (5, &[(9, 0)]),
+        (7, &[(9, 0)]),
+    ];
+    let flow = whole(&[all, &[(17, &[(9, 0)])]]);
+    // Record, start and width of every numeric field besides delega numbers.
+    let fields = [
+        (1, 14, 6),
+        (4, 27, 15),
+        (4, 42, 15),
+        (5, 13, 15),
+        (5, 28, 15),
+        (5, 44, 15),
+        (6, 52, 15),
+        (6, 67, 15),
+        (7, 13, 15),
+        (7, 28, 15),
+        (7, 44, 15),
+        (8, 29, 15),
+        (8, 44, 15),
+        (9, 15, 15),
+        (9, 30, 15),
+        (9, 46, 15),
+        (10, 31, 15),
+        (10, 46, 15),
+        (11, 17, 15),
+        (11, 32, 15),
+        (11, 48, 15),
+        (12, 36, 15),
+        (15, 41, 15),
+        (15, 56, 15),
+        (16, 44, 15),
+        (17, 36, 15),
+        (18, 46, 7),
+        (18, 53, 15),
+        (18, 83, 7),
+    ];
+    let mut flow_of_blanks = flow.clone();
+    for record in 1..=18 {
+        for position in 1..=120 {
+            let field = fields.iter().find(|&&(in_record, start, width)| {
+                in_record == record && (start..start + width).contains(&position)
+            });
+            // In EF the first field by position is 46, then 53, then 83.
+            let spoiled = with(flow.clone(), record, position, "x");
+            if let Some(&(_, start, _)) = field {
+                assert_refused(&spoiled, 7, record, start);
+                continue;
+            }
+            // Nor is any other byte read, but for these.
+            let read = match record {
+                1 | 18 => matches!(position, 2..=3 | 20..=39),
+                _ => matches!(position, 2..=10),
+            };
+            let subtype =
+                !matches!(record, 1 | 2 | 3 | 13 | 14 | 18) && matches!(position, 11 | 12);
+            let sign = matches!((record, position), (5 | 7 | 16, 43) | (9, 45) | (11, 47));
+            if !read && !subtype && !sign {
+                put(&mut flow_of_blanks, (record - 1) * 120 + position, "/");
+            }
+        }
+    }
+    assert_eq!(judge(&flow_of_blanks), judge(&flow));
+    assert!(judge(&flow).is_ok());
+}
+
+#[test]
+fn all_fields_are_tested_before_any_is_compared() {
+    let flow = with(example(), 6, 15, "000000000000001");
+    assert_refused(&flow, 10, 6, 15);
+    assert_refused(&with(flow, 6, 60, " "), 7, 6, 46);
+    let flow = with(example(), 8, 46, "0000002");
+    assert_refused(&flow, 18, 8, 46);
+    assert_refused(&with(flow.clone(), 8, 89, " "), 7, 8, 83);
+    assert_refused(&with(with(flow, 8, 89, " "), 8, 53, " "), 7, 8, 53);
+}
+
+// ---------------------------------------------------------------- amounts
+
+#[test]
+fn totals_sign_and_balance() {
+    assert_refused(&with(example(), 6, 15, "000000000010001"), 10, 6, 15);
+    assert_refused(&with(example(), 6, 30, "000000000002501"), 11, 6, 30);
+    for sign in ["N", " ", "p", "0"] {
+        assert_refused(&with(example(), 6, 45, sign), 12, 6, 45);
+    }
+    assert_refused(&with(example(), 6, 46, "000000000007501"), 13, 6, 46);
+    assert_refused(&with(example(), 7, 36, "000000000007501"), 15, 7, 36);
+    // Columns of the other four.
+    let all: &[Built] = &[(1, &[(9, 4)]), (3, &[(9, 4)]), (7, &[(9, 4)])];
+    let flow = whole(&[all, &[(17, &[(9, 0)])]]);
+    for (record, debit_at, credit_at, sign_at) in
+        [(5, 13, 28, 43), (7, 13, 28, 43), (9, 17, 32, 47)]
+    {
+        let one = "000000000000001";
+        assert_refused(
+            &with(flow.clone(), record, debit_at, one),
+            10,
+            record,
+            debit_at,
+        );
+        assert_refused(
+            &with(flow.clone(), record, credit_at, one),
+            11,
+            record,
+            credit_at,
+        );
+        assert_refused(
+            &with(flow.clone(), record, sign_at, "N"),
+            12,
+            record,
+            sign_at,
+        );
+        assert_refused(
+            &with(flow.clone(), record, sign_at + 1, one),
+            13,
+            record,
+            sign_at + 1,
+        );
+    }
+    assert_refused(&with(flow.clone(), 14, 43, "N"), 12, 14, 43);
+    assert_refused(&with(flow, 14, 44, "000000000000001"), 13, 14, 44);
+}
+
+#[test]
+fn a_zero_balance_is_positive() {
+    let flow = one(5, &[(5, 5)]);
+    assert_eq!(judge(&flow).unwrap().total, 0);
+    assert_refused(&with(flow, 5, 45, "N"), 12, 5, 45);
+}
+
+#[test]
+fn head_and_tail_agree_but_not_with_the_lines() {
+    // Line, balance and payment all changed alike, the tail's sum is wrong.
+    let lines: &[(u64, u64)] = &[(10000, 0), (0, 2400)];
+    let mut records = vec![head()];
+    records.extend(delega_records(1, &[(5, lines)]).0);
+    records.push(tail(1, 8, 7500));
+    assert_refused(&records.concat(), 20, 8, 53);
+    // The totals agree with one another but not with the lines.
+    let mut records = vec![head(), numbered("10", 1, ""), numbered("20", 1, "")];
+    records.extend([line(1, 5, (10000, 0)), line(1, 5, (0, 2500))]);
+    records.extend([balance(1, 5, lines), payment(1, 7600), tail(1, 8, 7600)]);
+    assert_refused(&records.concat(), 11, 6, 30);
+}
+
+#[test]
+fn sums_beyond_fifteen_digits_differ_and_are_not_reduced() {
+    const MOST: u64 = 999_999_999_999_999;
+    let zero = "000000000000000";
+    let two = [(MOST, 0), (1, 0)];
+    // The builder's sixteen digits are put right to fifteen before judging.
+    let build = |subtype, totals: &[(u64, u64)], lines: &[(u64, u64)]| {
+        let mut records = vec![head(), numbered("10", 1, ""), numbered("20", 1, "")];
+        records.extend(lines.iter().map(|&amounts| line(1, subtype, amounts)));
+        records.push(balance(1, subtype, totals));
+        records.concat()
+    };
+    assert_refused(&with(build(5, &[(1, 0)], &two), 6, 15, zero), 10, 6, 15);
+    assert_refused(&build(5, &[(1, 0)], &[(1, MOST), (0, 1)]), 11, 6, 30);
+    assert_refused(&with(build(17, &[(1, 0)], &two), 6, 44, zero), 13, 6, 44);
+
+    let mut records = build(1, &[(MOST, 0)], &[(MOST, 0)]);
+    records.extend(build(3, &[(1, 0)], &[(1, 0)])[360..].to_vec());
+    records.extend(payment(1, 0));
+    assert_refused(&records, 15, 8, 36);
+
+    let mut records = vec![head()];
+    records.extend(delega_records(1, &[(1, &[(MOST, 0)])]).0);
+    records.extend(delega_records(2, &[(1, &[(1, 0)])]).0);
+    records.push(tail(2, 12, 0));
+    assert_refused(&records.concat(), 20, 12, 53);
+}
+
+#[test]
+fn section_sums_over_the_flow_are_whole() {
+    const MOST: u64 = 999_999_999_999_999;
+    let part: &[Built] = &[(1, &[(MOST, MOST)])];
+    let summary = judge(&whole(&[part, part, part])).unwrap();
+    assert_eq!(summary.total, 0);
+    assert_eq!(summary.sums[0], (3 * MOST, 3 * MOST));
+}
+
+// ----------------------------------------------------------- head and tail
+
+#[test]
+fn names() {
+    for position in [20, 39] {
+        for text in ["/", ":"] {
+            assert_refused(&with(example(), 1, position, text), 16, 1, 20);
+            assert_refused(&with(example(), 8, position, text), 16, 8, 20);
+        }
+        assert_refused(&with(example(), 8, position, "#"), 16, 8, 20);
+    }
+    for position in [19, 40] {
+        let spoiled = if position == 19 { "9" } else { "/" };
+        assert!(judge(&with(example(), 8, position, spoiled)).is_ok());
+    }
+    let blank = " ".repeat(20);
+    assert!(judge(&with(with(example(), 1, 20, &blank), 8, 20, &blank)).is_ok());
+    // 7, then 16, then 17; in the tail 16 before 18.
+    let flow = with(with(example(), 1, 14, "009900"), 1, 20, "/");
+    assert_refused(&flow, 16, 1, 20);
+    assert_refused(&with(flow, 1, 19, " "), 7, 1, 14);
+    assert_refused(
+        &with(with(example(), 8, 20, "/"), 8, 46, "9999999"),
+        16,
+        8,
+        20,
+    );
+}
+
+#[test]
+fn dates() {
+    for date in ["010100", "310299", "311299", "010112"] {
+        assert!(judge(&with(example(), 1, 14, date)).is_ok());
+    }
+    for date in ["000199", "320199", "010099", "011399", "000000", "999999"] {
+        assert_refused(&with(example(), 1, 14, date), 17, 1, 14);
+    }
+    assert_refused(&with(example(), 1, 14, " 10100"), 7, 1, 14);
+}
+
+#[test]
+fn tail_counts() {
+    for count in ["0000000", "0000002", "1000001"] {
+        assert_refused(&with(example(), 8, 46, count), 18, 8, 46);
+    }
+    for count in ["0000000", "0000007", "0000009"] {
+        assert_refused(&with(example(), 8, 83, count), 19, 8, 83);
+    }
+    assert_refused(&with(example(), 8, 53, "000000000007501"), 20, 8, 53);
+    // 19 before 20, though 53 stands before 83.
+    let flow = with(with(example(), 8, 53, "000000000000000"), 8, 83, "0000000");
+    assert_refused(&flow, 19, 8, 83);
+}
+
+// ------------------------------------------------------------------- calls
+
+/// Records: 1 F4; 2-9 delega 1 with 40-01 at 4, 5 and 40-07 at 7;
+/// 10-15 delega 2 with 40-17 at 12, 13; 16-20 delega 3 with 40-05 at 18; 21 EF.
+fn three() -> Vec<u8> {
+    whole(&[
+        &[(1, &[(700, 0), (50, 20)]), (7, &[(0, 30)])],
+        &[(17, &[(40, 0), (60, 0)])],
+        &[(5, &[(8, 3)])],
+    ])
+}
+
+#[test]
+fn sums_of_one_delega() {
+    let flow = three();
+    let none = (0, 0);
+    let expected = [
+        (700, [(750, 20), none, none, (0, 30), none]),
+        (100, [none, none, none, none, (100, 0)]),
+        (5, [none, none, (8, 3), none, none]),
+    ];
+    for (number, (final_balance, sums)) in (1..).zip(expected) {
+        assert_eq!(
+            delega(&flow, number),
+            Ok(DelegaSums {
+                final_balance,
+                sums
+            })
+        );
+    }
+    for number in [0, 4, u64::MAX] {
+        assert_eq!(delega(&flow, number), Err(refused(21, 0, 0)));
+    }
+    let bad = with(flow, 21, 46, "0000004");
+    assert_eq!(delega(&bad, 1), Err(refused(18, 21, 46)));
+    assert_eq!(delega(&bad, 0), Err(refused(18, 21, 46)));
+}
+
+#[test]
+fn lines_are_found() {
+    let flow = three();
+    let lines = [
+        ((1, 1, 1), 4),
+        ((1, 1, 2), 5),
+        ((1, 7, 1), 7),
+        ((2, 17, 1), 12),
+        ((2, 17, 2), 13),
+        ((3, 5, 1), 18),
+    ];
+    for ((delega, subtype, place), record) in lines {
+        assert_eq!(find(&flow, delega, subtype, place), Ok(record));
+    }
+    for delega in [0, 1, 2, 3, 4, u64::MAX] {
+        for subtype in (0..=20).chain([101, 255, 256, 257, u64::MAX]) {
+            for place in [0, 1, 2, 3, 4, 256, 257, u64::MAX] {
+                let expected = lines.iter().find(|line| line.0 == (delega, subtype, place));
+                assert_eq!(
+                    find(&flow, delega, subtype, place),
+                    expected.map(|line| line.1).ok_or(refused(21, 0, 0))
+                );
+            }
+        }
+    }
+    assert_eq!(find(&[], 0, 0, 0), Err(refused(2, 0, 0)));
+    assert_eq!(
+        find(&with(flow, 21, 1, "\n"), 0, 0, 0),
+        Err(refused(3, 21, 1))
+    );
+}
+
+#[test]
+fn corrections_try_their_refusals_in_order() {
+    const MOST: u64 = 999_999_999_999_999;
+    let cases = [
+        // 21 before 22.
+        ((0, 1, 1, u64::MAX, u64::MAX), 21),
+        ((4, 1, 1, 1, 0), 21),
+        ((1, 2, 1, 1, 0), 21),
+        ((1, 3, 1, 1, 0), 21),
+        ((1, 1, 0, 1, 0), 21),
+        ((1, 1, 3, 1, 0), 21),
+        // 22 by value, before 9 and 14.
+        ((1, 1, 1, MOST + 1, 0), 22),
+        ((1, 1, 1, 0, MOST + 1), 22),
+        ((1, 1, 1, u64::MAX, u64::MAX), 22),
+        ((2, 17, 1, 0, MOST + 1), 22),
+        // 9, in section 17 for any credit.
+        ((1, 1, 1, 0, 0), 9),
+        ((2, 17, 1, 5, 5), 9),
+        ((2, 17, 1, 0, MOST), 9),
+        // 14 before 23.
+        ((1, 7, 1, 0, 731), 14),
+        ((1, 1, 2, 1, MOST), 14),
+        // 23: total debit, balance of section 17, tail sum.
+        ((1, 1, 1, MOST, 0), 23),
+        ((1, 7, 1, MOST, 0), 23),
+        ((2, 17, 2, MOST, 0), 23),
+        ((3, 5, 1, MOST, 0), 23),
+    ];
+    for ((delega, subtype, place, debit, credit), number) in cases {
+        let mut flow = three();
+        let answer = correct(&mut flow, delega, subtype, place, debit, credit);
+        assert_eq!(answer, Err(refused(number, 0, 0)));
+        assert_eq!(flow, three());
+    }
+    let mut bad = with(three(), 21, 53, "x");
+    assert_eq!(correct(&mut bad, 0, 0, 0, 0, 0), Err(refused(7, 21, 53)));
+    assert_eq!(correct(&mut [], 1, 1, 1, 1, 0), Err(refused(2, 0, 0)));
+}
+
+#[test]
+fn a_correction_refuses_what_a_field_cannot_hold() {
+    const MOST: u64 = 999_999_999_999_999;
+    let attempt = |deleghe: &[&[Built]], delega, subtype, debit, credit| {
+        let mut flow = whole(deleghe);
+        assert!(judge(&flow).is_ok());
+        correct(&mut flow, delega, subtype, 1, debit, credit)
+    };
+    let overflow = Err(refused(23, 0, 0));
+    // Total credit alone.
+    let part: &[Built] = &[(5, &[(1, 1), (MOST - 1, MOST - 1)])];
+    assert_eq!(attempt(&[part], 1, 5, 1, 1), Ok(()));
+    assert_eq!(attempt(&[&[(1, &[(9, 0)]), part[0]]], 1, 5, 1, 2), overflow);
+    // The balance of section 17, which has no totals.
+    let part: &[Built] = &[(17, &[(1, 0), (MOST - 1, 0)])];
+    assert_eq!(attempt(&[part], 1, 17, 1, 0), Ok(()));
+    assert_eq!(attempt(&[part], 1, 17, 2, 0), overflow);
+    // The final balance alone: each section fits.
+    let part: &[Built] = &[(1, &[(1, 0)]), (3, &[(MOST - 1, 0)])];
+    assert_eq!(attempt(&[part], 1, 1, 1, 0), Ok(()));
+    assert_eq!(attempt(&[part], 1, 1, 2, 0), overflow);
+    // The tail sum alone: each delega fits.
+    let (first, second): (&[Built], &[Built]) = (&[(1, &[(1, 0)])], &[(1, &[(MOST - 1, 0)])]);
+    assert_eq!(attempt(&[first, second], 1, 1, 1, 0), Ok(()));
+    assert_eq!(attempt(&[first, second], 1, 1, 2, 0), overflow);
+}
+
+#[test]
+fn equal_amounts_change_no_byte() {
+    for (delega, subtype, place, debit, credit) in [
+        (1, 1, 1, 700, 0),
+        (1, 1, 2, 50, 20),
+        (1, 7, 1, 0, 30),
+        (2, 17, 2, 60, 0),
+        (3, 5, 1, 8, 3),
+    ] {
+        let mut flow = three();
+        assert_eq!(
+            correct(&mut flow, delega, subtype, place, debit, credit),
+            Ok(())
+        );
+        assert_eq!(flow, three());
+    }
+}
+
+#[test]
+fn the_sign_turns_and_is_positive_at_zero() {
+    let erario: Built = (1, &[(50, 0)]);
+    let mut flow = whole(&[&[erario, (5, &[(5, 0)])]]);
+    for amounts in [(0, 50), (7, 7), (1, 9), (5, 0)] {
+        assert_eq!(correct(&mut flow, 1, 5, 1, amounts.0, amounts.1), Ok(()));
+        assert_eq!(flow, whole(&[&[erario, (5, &[amounts])]]));
+    }
+}
+
+// ---------------------------------------------------- corrections at random
+
+/// A delega whose lines can be changed: subtypes with their lines.
+type Drawn = Vec<(u64, Vec<(u64, u64)>)>;
+
+/// A small generator of numbers that only look random.
+struct Dice(u64);
+
+impl Dice {
+    fn below(&mut self, limit: u64) -> u64 {
+        self.0 = self
+            .0
+            .wrapping_mul(6_364_136_223_846_793_005)
+            .wrapping_add(1_442_695_040_888_963_407);
+        (self.0 >> 33) % limit
+    }
+
+    fn amount(&mut self) -> u64 {
+        match self.below(4) {
+            0 => 0,
+            1 => self.below(1 << 31) * self.below(1000),
+            _ => self.below(20_000),
+        }
+    }
+
+    fn line(&mut self, subtype: u64) -> (u64, u64) {
+        match (self.amount(), self.amount() / 8) {
+            (debit, _) if subtype == 17 => (debit + 1, 0),
+            (0, 0) => (1, 0),
+            amounts => amounts,
+        }
+    }
+
+    fn delega(&mut self) -> Drawn {
+        let mut subtypes: Vec<u64> = [1, 3, 5, 7]
+            .into_iter()
+            .filter(|_| self.below(2) == 0)
+            .collect();
+        if subtypes.is_empty() {
+            subtypes.push(17);
+        }
+        subtypes
+            .into_iter()
+            .map(|subtype| {
+                (
+                    subtype,
+                    (0..=self.below(4)).map(|_| self.line(subtype)).collect(),
+                )
+            })
+            .collect()
+    }
+}
+
+fn rebuilt(deleghe: &[Drawn]) -> Vec<u8> {
+    let deleghe: Vec<Vec<Built>> = deleghe
+        .iter()
+        .map(|sections| {
+            sections
+                .iter()
+                .map(|(subtype, lines)| (*subtype, &lines[..]))
+                .collect()
+        })
+        .collect();
+    let deleghe: Vec<&[Built]> = deleghe.iter().map(|sections| &sections[..]).collect();
+    whole(&deleghe)
+}
+
+#[test]
+fn a_corrected_flow_is_the_flow_built_anew() {
+    let mut dice = Dice(24);
+    let mut made = 0;
+    let mut negative = 0;
+    for _ in 0..400 {
+        let mut deleghe: Vec<_> = (0..=dice.below(4)).map(|_| dice.delega()).collect();
+        let mut flow = rebuilt(&deleghe);
+        if judge(&flow).is_err() {
+            continue;
+        }
+        for _ in 0..12 {
+            let d = dice.below(deleghe.len() as u64) as usize;
+            let s = dice.below(deleghe[d].len() as u64) as usize;
+            let subtype = deleghe[d][s].0;
+            let place = dice.below(deleghe[d][s].1.len() as u64) as usize;
+            let (debit, credit) = dice.line(subtype);
+            let before = flow.clone();
+            let answer = correct(
+                &mut flow,
+                d as u64 + 1,
+                subtype,
+                place as u64 + 1,
+                debit,
+                credit,
+            );
+            let old = std::mem::replace(&mut deleghe[d][s].1[place], (debit, credit));
+            match answer {
+                Ok(()) => {
+                    assert_eq!(flow, rebuilt(&deleghe));
+                    assert!(judge(&flow).is_ok());
+                    made += 1;
+                }
+                Err(refusal) => {
+                    assert_eq!(refusal, refused(14, 0, 0));
+                    assert_eq!(judge(&rebuilt(&deleghe)).unwrap_err().number, 14);
+                    assert_eq!(flow, before);
+                    deleghe[d][s].1[place] = old;
+                    negative += 1;
+                }
+            }
+        }
+    }
+    assert!(
+        made > 1000 && negative > 100,
+        "{made} made, {negative} refused"
+    );
+}
+
+#[test]
+fn spoiled_flows_are_answered_alike_by_every_call() {
+    let mut dice = Dice(7);
+    let sound = three();
+    for _ in 0..20_000 {
+        let mut flow = sound.clone();
+        for _ in 0..=dice.below(3) {
+            let place = dice.below(flow.len() as u64) as usize;
+            flow[place] = match dice.below(3) {
+                0 => dice.below(256) as u8,
+                1 => b'0' + dice.below(10) as u8,
+                _ => b' ',
+            };
+        }
+        if dice.below(4) == 0 {
+            let records = dice.below(22) as usize;
+            flow.truncate(records * 120);
+        }
+        let answer = judge(&flow);
+        assert_eq!(find(&flow, 1, 1, 1).err(), answer.err());
+        assert_eq!(delega(&flow, 3).err(), answer.err());
+        let before = flow.clone();
+        assert_eq!(correct(&mut flow, 3, 5, 1, 8, 3).err(), answer.err());
+        assert_eq!(flow, before);
+    }
+}
