@@ -21,6 +21,9 @@ for name, expected, data, why in CASES:
     flows += b"%-40s %06d\n" % (name.encode(), len(data)) + data + b"\n"
     stdout += [name, *expected]
 
+vectors = ROOT / "cases" / "vectors.answers"
+stdout += vectors.read_text(encoding="ascii").splitlines()
+
 data_dir = ROOT / "crates" / "judge_cases" / "data"
 data_dir.mkdir(parents=True, exist_ok=True)
 (data_dir / "flows").write_bytes(flows)

@@ -78,8 +78,8 @@ fn judge_all(fd: i32) {
     }
 }
 
-fn main() {
-    let path = b"flows";
+// The cases of one file.
+fn judge_file(path: &[u8]) {
     let fd = os::open_read(path);
     if fd < 0 {
         os::fail(path);
@@ -87,4 +87,10 @@ fn main() {
     }
     judge_all(fd);
     libc::close(fd);
+}
+
+// The cases whose answers were written by hand, then the flows that the reference has answered.
+fn main() {
+    judge_file(b"flows");
+    judge_file(b"vectors");
 }

@@ -123,12 +123,25 @@ pub const SECTIONS: [Section; 5] = [
     },
 ];
 
-// The row of a section; past the table all is zero and nothing is allowed.
+// The row of a section; past the table all is zero and nothing is allowed. The index is constant in each way out, since the compiler writes the
+// whole table into memory at every look-up by a variable index.
 pub fn section_at(s: usize) -> Section
     ensures { λ r. ⌜ r ≡ sectionAt s ⌝ }
 {
-    if s < 5 {
-        return SECTIONS[s];
+    if s == 0 {
+        return SECTIONS[0];
+    }
+    if s == 1 {
+        return SECTIONS[1];
+    }
+    if s == 2 {
+        return SECTIONS[2];
+    }
+    if s == 3 {
+        return SECTIONS[3];
+    }
+    if s == 4 {
+        return SECTIONS[4];
     }
     Section {
         line_subtype: 0,

@@ -76,14 +76,14 @@ pub fn number(part: &[u8]) -> Digits
     let mut i: usize = 0;
     let mut n: u64 = 0;
     while i < part.len() {
-        let b = part[i];
+        let b = part[i] as u64;
         if b < 48 {
             return Digits::NonDigit(i);
         }
         if 57 < b {
             return Digits::NonDigit(i);
         }
-        n = n * 10 + (b - 48) as u64;
+        n = n * 10 + (b - 48);
         i += 1;
     }
     Digits::Number(n)

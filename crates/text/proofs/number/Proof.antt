@@ -25,6 +25,9 @@ loop-holds c = (omega arith, omega arith, read-is-number _ (c .if1 .left))
 shared-slice-read-b : tie.Need-shared-slice-read-b Inv-loop μ-loop
 shared-slice-read-b c = omega arith
 
+cast-b : tie.Need-cast-b Inv-loop μ-loop
+cast-b c = omega (arith, c .shared-slice-known .given (c .before .before .loop .i))
+
 returns-2 : tie.Need-returns-2 Inv-loop μ-loop
 returns-2 c =
     sym
@@ -41,9 +44,6 @@ mul-n : tie.Need-mul-n Inv-loop μ-loop
 mul-n c =
     let l = c .before .before .before .before .loop in
     omega (arith, small (l .i) (l .n) (omega arith) (l .inv .1))
-
-cast-n : tie.Need-cast-n Inv-loop μ-loop
-cast-n c = omega arith
 
 add-n : tie.Need-add-n Inv-loop μ-loop
 add-n c =
@@ -77,10 +77,10 @@ number-spec =
     returns
     loop-holds
     shared-slice-read-b
+    cast-b
     returns-2
     returns-3
     mul-n
-    cast-n
     add-n
     add-i
     loop-less

@@ -1,0 +1,166 @@
+//! Makes each call on the library and on the reference, from the same bytes,
+//! and compares everything that either leaves behind.
+
+use crate::calls::{Call, MOST_NUMBERS, NO_ROOM};
+use crate::ffi;
+use crate::lent::{Lent, Place};
+use crate::rival;
+use crate::rng::Rng;
+
+/// More room than any answer needs.
+const MOST_ROOM: usize = MOST_NUMBERS + 5;
+/// The longest flow that is tried.
+const MOST_FLOW: usize = 160_000;
+
+/// What a call answered and what it left.
+pub struct Left {
+    pub code: u64,
+    pub room: Vec<u64>,
+    pub flow: Vec<u8>,
+}
+
+/// A call on which the two sides are not the same.
+pub struct Difference {
+    pub call: Call,
+    pub flow: Vec<u8>,
+    pub room: Vec<u64>,
+    pub library: Left,
+    pub reference: Left,
+    /// Bytes or numbers beside the lent ones were written.
+    pub beside: bool,
+}
+
+pub type Compared<T> = Result<T, Box<Difference>>;
+
+pub struct Comparer {
+    lent: Lent,
+    lent_room: Lent,
+    after: Vec<u8>,
+    room: Vec<u64>,
+    pub tally: Tally,
+}
+
+impl Comparer {
+    pub fn new() -> Self {
+        Comparer {
+            lent: Lent::new(MOST_FLOW),
+            lent_room: Lent::new(8 * MOST_ROOM),
+            after: Vec::new(),
+            room: Vec::new(),
+            tally: Tally::new(),
+        }
+    }
+
+    /// The flow as the last call left it, on both sides.
+    pub fn after(&self) -> &[u8] {
+        &self.after
+    }
+
+    /// The room as the last call left it, on both sides.
+    pub fn room(&self) -> &[u64] {
+        &self.room
+    }
+
+    /// Compares a call with room that is enough, or more than that.
+    pub fn compare(&mut self, rng: &mut Rng, call: Call, flow: &[u8]) -> Compared<u64> {
+        let numbers = call.needs() + if rng.one_in(2) { 0 } else { rng.place(5) };
+        self.compare_with(rng, call, flow, numbers)
+    }
+
+    /// Compares a call with too little room.
+    pub fn compare_short(&mut self, rng: &mut Rng, call: Call, flow: &[u8]) -> Compared<()> {
+        let numbers = rng.place(call.needs());
+        self.compare_with(rng, call, flow, numbers).map(drop)
+    }
+
+    fn compare_with(&mut self, rng: &mut Rng, call: Call, flow: &[u8], numbers: usize) -> Compared<u64> {
+        assert!(flow.len() <= MOST_FLOW && numbers <= MOST_ROOM);
+        let (first, step) = (rng.next(), rng.next() | 1);
+        let before = |k: u64| first.wrapping_add(k.wrapping_mul(step));
+        self.room.clear();
+        self.room.extend((0..numbers as u64).map(before));
+        self.after.clear();
+        self.after.extend_from_slice(flow);
+        let code = rival::call(&call, &mut self.after, &mut self.room);
+
+        let place = match rng.below(4) {
+            0 => Place::Start,
+            1 => Place::Within(1 + rng.place(63)),
+            _ => Place::End,
+        };
+        let part = self.lent.part(flow.len(), place);
+        let place = if rng.one_in(2) { Place::End } else { Place::Start };
+        let room_part = self.lent_room.part(8 * numbers, place);
+        let lent = self.lent.bytes(&part);
+        lent.copy_from_slice(flow);
+        let room = self.lent_room.numbers(&room_part);
+        room.iter_mut().zip(0..).for_each(|(number, k)| *number = before(k));
+        let library = ffi::call(&call, lent, room);
+
+        let same = library == code && *room == self.room[..] && *lent == self.after[..];
+        let beside = !self.lent.kept(&part) || !self.lent_room.kept(&room_part);
+        if same && !beside {
+            self.tally.count(&call, code);
+            return Ok(code);
+        }
+        Err(Box::new(Difference {
+            call,
+            flow: flow.to_vec(),
+            room: (0..numbers as u64).map(before).collect(),
+            library: Left {
+                code: library,
+                room: self.lent_room.numbers(&room_part).to_vec(),
+                flow: self.lent.bytes(&part).to_vec(),
+            },
+            reference: Left { code, room: self.room.clone(), flow: self.after.clone() },
+            beside,
+        }))
+    }
+}
+
+/// How often each call was answered how.
+pub struct Tally {
+    counts: [[u64; Tally::WAYS]; 4],
+}
+
+impl Tally {
+    /// 0 to 23, and 24 for too little room.
+    const WAYS: usize = 25;
+
+    fn new() -> Self {
+        Tally { counts: [[0; Tally::WAYS]; 4] }
+    }
+
+    fn count(&mut self, call: &Call, code: u64) {
+        let way = if code == NO_ROOM { Tally::WAYS - 1 } else { code as usize };
+        self.counts[call.index()][way] += 1;
+    }
+
+    pub fn of(&self, call: usize, code: usize) -> u64 {
+        self.counts[call][code]
+    }
+
+    /// Calls with enough room.
+    pub fn calls(&self, call: usize) -> u64 {
+        self.counts[call][..Tally::WAYS - 1].iter().sum()
+    }
+
+    pub fn print(&self) {
+        println!("{:<10} {:>10} {:>10} {:>10} {:>10}", "answer", "judge", "delega", "find", "correct");
+        for way in 0..Tally::WAYS {
+            let name = match way {
+                0 => "0 done".to_string(),
+                way if way == Tally::WAYS - 1 => "100 room".to_string(),
+                way => way.to_string(),
+            };
+            print!("{name:<10}");
+            for call in 0..4 {
+                match self.counts[call][way] {
+                    0 => print!(" {:>10}", "-"),
+                    count => print!(" {count:>10}"),
+                }
+            }
+            println!();
+        }
+    }
+}

@@ -1,0 +1,64 @@
+//! The static library. Nothing checks these declarations against its source:
+//! they repeat include/f24.h.
+
+use crate::calls::Call;
+
+/// What the calls of this build are.
+#[cfg(not(stand_in))]
+pub const NAME: &str = "library";
+
+#[cfg(not(stand_in))]
+#[link(name = "f24", kind = "static")]
+extern "C" {
+    fn f24_judge(flow: *const u8, flow_len: usize, answer: *mut u64, answer_len: usize) -> u64;
+    fn f24_delega(flow: *const u8, flow_len: usize, number: u64, answer: *mut u64, answer_len: usize) -> u64;
+    fn f24_find(
+        flow: *const u8,
+        flow_len: usize,
+        delega: u64,
+        subtype: u64,
+        place: u64,
+        answer: *mut u64,
+        answer_len: usize,
+    ) -> u64;
+    fn f24_correct(
+        flow: *mut u8,
+        flow_len: usize,
+        delega: u64,
+        subtype: u64,
+        place: u64,
+        debit: u64,
+        credit: u64,
+        answer: *mut u64,
+        answer_len: usize,
+    ) -> u64;
+}
+
+/// Makes a call on a flow and lets the library write its answer into the room.
+#[cfg(not(stand_in))]
+pub fn call(call: &Call, flow: &mut [u8], room: &mut [u64]) -> u64 {
+    let (bytes, length) = (flow.as_mut_ptr(), flow.len());
+    let (answer, numbers) = (room.as_mut_ptr(), room.len());
+    // SAFETY: both pointers are to slices of these lengths, lent for the call
+    // alone and apart from each other; the library asks nothing else.
+    unsafe {
+        match *call {
+            Call::Judge => f24_judge(bytes, length, answer, numbers),
+            Call::Delega { number } => f24_delega(bytes, length, number, answer, numbers),
+            Call::Find { delega, subtype, place } => f24_find(bytes, length, delega, subtype, place, answer, numbers),
+            Call::Correct { delega, subtype, place, debit, credit } => {
+                f24_correct(bytes, length, delega, subtype, place, debit, credit, answer, numbers)
+            }
+        }
+    }
+}
+
+/// A build with `--cfg stand_in` links no library: the reference takes its
+/// place, and nothing is compared but the reference with itself.
+#[cfg(stand_in)]
+pub const NAME: &str = "reference in the library's place";
+
+#[cfg(stand_in)]
+pub fn call(call: &Call, flow: &mut [u8], room: &mut [u64]) -> u64 {
+    crate::rival::call(call, flow, room)
+}

@@ -1,0 +1,25 @@
+//! Flows in one file, each after a line of 48 bytes: its name in 40
+//! characters, a space, its length in six digits and LF. LF follows the flow.
+
+use std::io::{self, Write};
+
+pub const HEADER: usize = 48;
+
+pub fn write(out: &mut impl Write, name: &str, flow: &[u8]) -> io::Result<()> {
+    writeln!(out, "{name:<40} {:06}", flow.len())?;
+    out.write_all(flow)?;
+    out.write_all(b"\n")
+}
+
+/// The name and the bytes of each flow.
+pub fn read(mut frames: &[u8]) -> Option<Vec<(String, &[u8])>> {
+    let mut all = Vec::new();
+    while !frames.is_empty() {
+        let header = std::str::from_utf8(frames.get(..HEADER)?).ok()?;
+        let (name, length) = header.strip_suffix('\n')?.rsplit_once(' ')?;
+        let end = HEADER + length.parse::<usize>().ok()?;
+        all.push((name.trim_end().to_string(), frames.get(HEADER..end)?));
+        frames = frames.get(end..)?.strip_prefix(b"\n")?;
+    }
+    Some(all)
+}

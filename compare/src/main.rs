@@ -1,0 +1,414 @@
+//! Compares the static library with the reference on seeded random flows.
+
+#![allow(unknown_lints, unexpected_cfgs)]
+
+mod calls;
+mod columns;
+mod comparer;
+mod correction;
+mod damage;
+mod ffi;
+mod frames;
+mod lent;
+mod report;
+mod rival;
+mod rng;
+mod sound;
+mod trap;
+mod vectors;
+
+use calls::Call;
+use comparer::{Compared, Comparer, Difference};
+use rng::Rng;
+use sound::{Amounts, Pool, Size};
+use std::fs;
+use std::path::{Path, PathBuf};
+use std::process::ExitCode;
+
+const USAGE: &str = "usage:
+  compare SEED FLOWS CORRECTIONS             compares so many random cases
+  compare again SEED flow|correction INDEX   compares one of these once more
+  compare frames FILE..                      compares the flows of framed files
+  compare files FILE..                       compares files, a flow each
+  compare seeds SEED COUNT FOLDER            writes small random flows, a file each, for a fuzzer to start from
+  compare vectors SEED COUNT FLOWS STDOUT    writes random flows with the reference's answers
+The first difference goes to the folder that COMPARE_FOLDER names, or to 'difference'.";
+
+/// Fewest times that each answer must come up in a full run.
+const FEWEST: u64 = 2000;
+const FULL_FLOWS: u64 = 1_000_000;
+const FULL_CORRECTIONS: u64 = 200_000;
+
+enum Failure {
+    Usage,
+    Io(String),
+    Differs(String, Box<Difference>),
+    /// An answer that came up too seldom for the run to say much.
+    Seldom,
+}
+
+/// Ends with 0 when all is the same, 1 at a difference, 2 for bad usage.
+fn main() -> ExitCode {
+    let words: Vec<String> = std::env::args().skip(1).collect();
+    let words: Vec<&str> = words.iter().map(String::as_str).collect();
+    match run(&words) {
+        Ok(()) => ExitCode::SUCCESS,
+        Err(Failure::Usage) => {
+            eprintln!("{USAGE}");
+            ExitCode::from(2)
+        }
+        Err(Failure::Io(message)) => {
+            eprintln!("compare: {message}");
+            ExitCode::from(2)
+        }
+        Err(Failure::Seldom) => ExitCode::from(1),
+        Err(Failure::Differs(case, difference)) => {
+            let folder = folder();
+            eprintln!("\nDIFFERENCE between the {} and the reference", ffi::NAME);
+            match report::write(&folder, &case, &difference) {
+                Ok(text) => eprintln!("{text}files: {}", folder.display()),
+                Err(error) => eprintln!("case: {case}\n{}: {error}", folder.display()),
+            }
+            ExitCode::from(1)
+        }
+    }
+}
+
+fn run(words: &[&str]) -> Result<(), Failure> {
+    match *words {
+        ["again", seed, kind, index] => again(number(seed)?, kind, number(index)?),
+        ["frames", ref files @ ..] if !files.is_empty() => compare_frames(files),
+        ["files", ref files @ ..] if !files.is_empty() => compare_files(files),
+        ["seeds", seed, count, folder] => seeds(number(seed)?, number(count)?, Path::new(folder)),
+        ["vectors", seed, count, flows, stdout] => {
+            vectors::write(number(seed)?, number(count)?, flows, stdout).map_err(|error| Failure::Io(error.to_string()))
+        }
+        [seed, flows, corrections] => compare(number(seed)?, number(flows)?, number(corrections)?),
+        _ => Err(Failure::Usage),
+    }
+}
+
+fn number(word: &str) -> Result<u64, Failure> {
+    word.parse().map_err(|_| Failure::Usage)
+}
+
+fn folder() -> PathBuf {
+    PathBuf::from(std::env::var_os("COMPARE_FOLDER").unwrap_or_else(|| "difference".into()))
+}
+
+fn compare(seed: u64, flows: u64, corrections: u64) -> Result<(), Failure> {
+    println!("seed {seed}: {flows} flows and {corrections} corrections, the {} with the reference", ffi::NAME);
+    trap::set();
+    let pool = Pool::new(seed);
+    let mut comparer = Comparer::new();
+    let mut shapes = Shapes::default();
+    for index in 0..flows {
+        trap::at(trap::FLOW, seed, index);
+        flow_case(&mut comparer, &pool, seed, index, &mut shapes)
+            .map_err(|difference| differs(seed, "flow", index, difference))?;
+        progress(index, flows, "flows");
+    }
+    let mut index = 0;
+    while comparer.tally.calls(3) < corrections {
+        let before = comparer.tally.calls(3);
+        trap::at(trap::CORRECTION, seed, index);
+        correction_case(&mut comparer, &pool, (seed, index), corrections - before, &mut shapes)
+            .map_err(|difference| differs(seed, "correction", index, difference))?;
+        index += 1;
+        progress_past(before, comparer.tally.calls(3), corrections, "corrections");
+    }
+
+    comparer.tally.print();
+    shapes.print();
+    let judged = (0..=20).map(|way| (comparer.tally.of(0, way), format!("judge {way}"))).min();
+    let corrected =
+        [0, 9, 14, 21, 22, 23].iter().map(|&way| (comparer.tally.of(3, way), format!("correct {way}"))).min();
+    let mut seldom = false;
+    for (least, full) in [(judged, flows >= FULL_FLOWS), (corrected, corrections >= FULL_CORRECTIONS)] {
+        if let Some((times, answer)) = least {
+            println!("rarest: {answer}, {times} times");
+            seldom |= full && times < FEWEST;
+        }
+    }
+    if seldom {
+        eprintln!("compare: an answer came up fewer than {FEWEST} times");
+        return Err(Failure::Seldom);
+    }
+    println!("no difference");
+    Ok(())
+}
+
+fn differs(seed: u64, kind: &str, index: u64, difference: Box<Difference>) -> Failure {
+    let case = format!("seed {seed}, {kind} {index} (once more: again {seed} {kind} {index})");
+    Failure::Differs(case, difference)
+}
+
+/// Says on standard error how far it is, ten times in all.
+fn progress(index: u64, of: u64, what: &str) {
+    progress_past(index, index + 1, of, what);
+}
+
+fn progress_past(before: u64, now: u64, of: u64, what: &str) {
+    let tenth = |k: u64| (u128::from(k) * 10 / u128::from(of.max(1))) as u64;
+    if tenth(before) < tenth(now) && of >= 10_000 {
+        eprintln!("{now} of {of} {what}");
+    }
+}
+
+/// One flow: judged, then asked for its deleghe and lines.
+fn flow_case(comparer: &mut Comparer, pool: &Pool, seed: u64, index: u64, shapes: &mut Shapes) -> Compared<()> {
+    let mut rng = Rng::new(seed, 1, index);
+    let flow = damage::any_flow(&mut rng, pool);
+    let code = comparer.compare(&mut rng, Call::Judge, &flow)?;
+    if code == 0 {
+        let room = comparer.room();
+        let deleghe = room[0];
+        shapes.count(room);
+        let used: Vec<u64> = (0..5)
+            .filter(|&section| room[3 + 2 * section] + room[4 + 2 * section] > 0)
+            .map(|section| columns::SECTIONS[section].line)
+            .collect();
+        for number in 1..=deleghe.min(3) {
+            comparer.compare(&mut rng, Call::Delega { number }, &flow)?;
+        }
+        let number = match rng.below(4) {
+            0 => 0,
+            1 => deleghe + 1,
+            2 => rng.pick(&[u64::MAX, 1 << 32, (1 << 32) + 1, 10_000_001]),
+            _ => rng.between(1, deleghe),
+        };
+        comparer.compare(&mut rng, Call::Delega { number }, &flow)?;
+        for _ in 0..4 {
+            let delega = if rng.one_in(8) { number } else { rng.between(1, deleghe) };
+            let subtype = if rng.one_in(8) { rng.below(20) } else { rng.pick(&used) };
+            let place = match rng.below(8) {
+                0 => rng.pick(&[0, 29, 256, 257, u64::MAX]),
+                1 => rng.between(1, 28),
+                2 | 3 => rng.between(2, 6),
+                _ => 1,
+            };
+            comparer.compare(&mut rng, Call::Find { delega, subtype, place }, &flow)?;
+        }
+    } else if rng.one_in(8) {
+        let call = correction::anything(&mut rng);
+        if call.index() != 3 {
+            comparer.compare(&mut rng, call, &flow)?;
+        }
+    }
+    if rng.one_in(16) {
+        let call = if rng.one_in(3) { Call::Judge } else { correction::anything(&mut rng) };
+        comparer.compare_short(&mut rng, call, &flow)?;
+    }
+    Ok(())
+}
+
+/// Corrections of one flow, each on what the one before left.
+fn correction_case(
+    comparer: &mut Comparer,
+    pool: &Pool,
+    (seed, index): (u64, u64),
+    most: u64,
+    shapes: &mut Shapes,
+) -> Compared<()> {
+    let mut rng = Rng::new(seed, 2, index);
+    let size = match rng.below(1000) {
+        0..=499 => Size::Tiny,
+        500..=899 => Size::Small,
+        900..=989 => Size::Medium,
+        990..=996 => Size::Large,
+        _ => Size::Full,
+    };
+    let amounts = rng.pick(&[Amounts::Small, Amounts::Middle, Amounts::Wide, Amounts::Extreme]);
+    let mut plan = sound::plan_with(&mut rng, size, amounts);
+    if rng.one_in(4) {
+        // A flow that is refused is not corrected.
+        let call = correction::choose(&mut rng, &plan);
+        let damages = rng.between(1, 2);
+        let flow = damage::damaged(&mut rng, pool, plan, damages);
+        comparer.compare(&mut rng, call, &flow)?;
+        return Ok(());
+    }
+    let fillers = || Rng::new(seed, 6, index);
+    let mut flow = sound::write(&mut fillers(), pool, &plan).bytes;
+    let times = rng.between(1, 10).min(most);
+    for _ in 0..times {
+        let call = correction::choose(&mut rng, &plan);
+        if rng.one_in(32) {
+            comparer.compare_short(&mut rng, call, &flow)?;
+        }
+        let code = comparer.compare(&mut rng, call, &flow)?;
+        if code == 0 {
+            shapes.correction(&flow, comparer.after());
+            flow.clear();
+            flow.extend_from_slice(comparer.after());
+            correction::apply(&mut plan, &call);
+        }
+    }
+    // What the corrections left is accepted, and is the flow that the
+    // generator writes for these lines with the same fillers.
+    let code = comparer.compare(&mut rng, Call::Judge, &flow)?;
+    assert!(code == 0, "seed {seed}, correction {index}: the flow is refused {code} at the end");
+    let anew = sound::write(&mut fillers(), pool, &plan).bytes;
+    assert!(flow == anew, "seed {seed}, correction {index}: not the generator's flow of these lines");
+    Ok(())
+}
+
+/// Accepted flows by size, by deleghe and by section, and corrections made by
+/// what they changed.
+#[derive(Default)]
+struct Shapes {
+    records: [u64; 6],
+    deleghe: [u64; 5],
+    sections: [u64; 5],
+    beyond_fifteen: u64,
+    /// Changed nothing, changed no sign, P to N, N to P.
+    corrections: [u64; 4],
+}
+
+impl Shapes {
+    fn count(&mut self, room: &[u64]) {
+        self.records[match room[1] {
+            0..=8 => 0,
+            9..=16 => 1,
+            17..=64 => 2,
+            65..=256 => 3,
+            257..=545 => 4,
+            _ => 5,
+        }] += 1;
+        self.deleghe[match room[0] {
+            0..=1 => 0,
+            2..=3 => 1,
+            4..=16 => 2,
+            17..=64 => 3,
+            _ => 4,
+        }] += 1;
+        for (section, sums) in room[3..13].chunks(2).enumerate() {
+            self.sections[section] += u64::from(sums[0] + sums[1] > 0);
+        }
+        let beyond = room[3..13].iter().any(|&sum| sum > columns::MOST_AMOUNT);
+        self.beyond_fifteen += u64::from(beyond);
+    }
+
+    fn correction(&mut self, before: &[u8], after: &[u8]) {
+        let changed = |old, new| before.iter().zip(after).any(|(&b, &a)| b == old && a == new);
+        self.corrections[if before == after {
+            0
+        } else if changed(b'P', b'N') {
+            2
+        } else if changed(b'N', b'P') {
+            3
+        } else {
+            1
+        }] += 1;
+    }
+
+    fn print(&self) {
+        let line = |what: &str, names: &[&str], counts: &[u64]| {
+            let parts: Vec<String> = names.iter().zip(counts).map(|(name, count)| format!("{name}: {count}")).collect();
+            println!("accepted flows by {what}: {}", parts.join(", "));
+        };
+        let [same, amounts, to_n, to_p] = self.corrections;
+        println!("corrections made: {same} to the same amounts, {amounts} within a sign, {to_n} from P to N, {to_p} from N to P");
+        line("records", &["7-8", "9-16", "17-64", "65-256", "257-545", "546"], &self.records);
+        line("deleghe", &["1", "2-3", "4-16", "17-64", "65-108"], &self.deleghe);
+        line("section used", &["01", "03", "05", "07", "17"], &self.sections);
+        println!("accepted flows with a section's sum of more than fifteen digits: {}", self.beyond_fifteen);
+    }
+}
+
+fn again(seed: u64, kind: &str, index: u64) -> Result<(), Failure> {
+    let pool = Pool::new(seed);
+    let mut comparer = Comparer::new();
+    let mut shapes = Shapes::default();
+    trap::set();
+    let compared = match kind {
+        "flow" => {
+            // Kept for a library that ends the program.
+            let flow = damage::any_flow(&mut Rng::new(seed, 1, index), &pool);
+            let to = folder().join("flow");
+            fs::create_dir_all(folder()).and_then(|()| fs::write(&to, &flow)).map_err(|error| at(&to, error))?;
+            println!("flow of {} bytes: {}", flow.len(), to.display());
+            trap::at(trap::FLOW, seed, index);
+            flow_case(&mut comparer, &pool, seed, index, &mut shapes)
+        }
+        "correction" => {
+            trap::at(trap::CORRECTION, seed, index);
+            correction_case(&mut comparer, &pool, (seed, index), u64::MAX, &mut shapes)
+        }
+        _ => return Err(Failure::Usage),
+    };
+    compared.map_err(|difference| differs(seed, kind, index, difference))?;
+    comparer.tally.print();
+    println!("no difference");
+    Ok(())
+}
+
+fn at(file: impl AsRef<Path>, error: std::io::Error) -> Failure {
+    Failure::Io(format!("{}: {error}", file.as_ref().display()))
+}
+
+fn compare_frames(files: &[&str]) -> Result<(), Failure> {
+    let mut comparer = Comparer::new();
+    for file in files {
+        let data = fs::read(file).map_err(|error| at(file, error))?;
+        let flows = frames::read(&data).ok_or_else(|| Failure::Io(format!("{file}: not framed flows")))?;
+        for (name, flow) in flows {
+            one_flow(&mut comparer, flow, &format!("{name} of {file}"))?;
+        }
+    }
+    comparer.tally.print();
+    println!("no difference");
+    Ok(())
+}
+
+fn compare_files(files: &[&str]) -> Result<(), Failure> {
+    let mut comparer = Comparer::new();
+    for file in files {
+        let flow = fs::read(file).map_err(|error| at(file, error))?;
+        one_flow(&mut comparer, &flow, file)?;
+    }
+    comparer.tally.print();
+    println!("no difference");
+    Ok(())
+}
+
+/// A flow from a file: judged, asked for its deleghe and lines, corrected.
+fn one_flow(comparer: &mut Comparer, flow: &[u8], case: &str) -> Result<(), Failure> {
+    let mut rng = Rng::new(flow.len() as u64, 4, 0);
+    every_call(comparer, &mut rng, flow).map_err(|difference| Failure::Differs(case.to_string(), difference))
+}
+
+fn every_call(comparer: &mut Comparer, rng: &mut Rng, flow: &[u8]) -> Compared<()> {
+    let accepted = comparer.compare(rng, Call::Judge, flow)? == 0;
+    for _ in 0..16 {
+        let call = correction::anything(rng);
+        comparer.compare(rng, call, flow)?;
+    }
+    if accepted {
+        let deleghe = comparer.compare(rng, Call::Judge, flow).map(|_| comparer.room()[0])?;
+        for delega in 0..=deleghe + 1 {
+            comparer.compare(rng, Call::Delega { number: delega }, flow)?;
+            for section in &columns::SECTIONS {
+                let (subtype, place) = (section.line, rng.between(1, 3));
+                comparer.compare(rng, Call::Find { delega, subtype, place }, flow)?;
+                let (debit, credit) = (rng.wide(1_000_000), rng.wide(1_000_000));
+                comparer.compare(rng, Call::Correct { delega, subtype, place, debit, credit }, flow)?;
+            }
+        }
+    }
+    Ok(())
+}
+
+fn seeds(seed: u64, count: u64, folder: &Path) -> Result<(), Failure> {
+    let pool = Pool::new(seed);
+    fs::create_dir_all(folder).map_err(|error| at(folder, error))?;
+    for index in 0..count {
+        let mut rng = Rng::new(seed, 5, index);
+        let flow = damage::flow_of(&mut rng, &pool, if index % 8 == 0 { Size::Small } else { Size::Tiny });
+        if flow.len() <= 6000 {
+            let file = folder.join(format!("flow-{index:05}"));
+            fs::write(&file, flow).map_err(|error| at(&file, error))?;
+        }
+    }
+    Ok(())
+}

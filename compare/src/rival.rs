@@ -1,0 +1,55 @@
+//! The reference, answering as include/f24.h says that the library does.
+
+use crate::calls::{Call, NO_ROOM};
+use reference::Refusal;
+
+/// Makes a call on a flow and writes its answer into the room.
+pub fn call(call: &Call, flow: &mut [u8], room: &mut [u64]) -> u64 {
+    if room.len() < call.needs() {
+        return NO_ROOM;
+    }
+    let refusal = match *call {
+        Call::Judge => match reference::judge(flow) {
+            Ok(summary) => {
+                room[0] = summary.deleghe;
+                room[1] = summary.records as u64;
+                room[2] = summary.total;
+                put_sums(&mut room[3..], &summary.sums);
+                return 0;
+            }
+            Err(refusal) => refusal,
+        },
+        Call::Delega { number } => match reference::delega(flow, number) {
+            Ok(delega) => {
+                room[0] = delega.final_balance;
+                put_sums(&mut room[1..], &delega.sums);
+                return 0;
+            }
+            Err(refusal) => refusal,
+        },
+        Call::Find { delega, subtype, place } => match reference::find(flow, delega, subtype, place) {
+            Ok(record) => {
+                room[0] = record as u64;
+                return 0;
+            }
+            Err(refusal) => refusal,
+        },
+        Call::Correct { delega, subtype, place, debit, credit } => {
+            match reference::correct(flow, delega, subtype, place, debit, credit) {
+                Ok(()) => return 0,
+                Err(refusal) => refusal,
+            }
+        }
+    };
+    let Refusal { number, record, position } = refusal;
+    room[0] = record as u64;
+    room[1] = position as u64;
+    u64::from(number)
+}
+
+fn put_sums(room: &mut [u64], sums: &[(u64, u64); 5]) {
+    for (pair, &(debit, credit)) in room.chunks_exact_mut(2).zip(sums) {
+        pair[0] = debit;
+        pair[1] = credit;
+    }
+}

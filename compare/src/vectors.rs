@@ -1,0 +1,79 @@
+//! Some thousand generated flows with the reference's answers, as the data and
+//! the expected output of a run program.
+
+use crate::columns::{MOST_BYTES, RECORD};
+use crate::damage;
+use crate::frames;
+use crate::rng::Rng;
+use crate::sound::{Pool, Size};
+use std::fs;
+use std::io::{self, Write};
+
+/// No more bytes than this in all.
+const MOST_WRITTEN: usize = 3_000_000;
+/// Large flows are dear: so many that are longer than a flow may be, and so
+/// many others of more than this many bytes.
+const MOST_TOO_LONG: usize = 2;
+const LARGE: usize = 4000;
+const MOST_LARGE: usize = 3;
+
+/// Writes `count` flows to one file and the lines that the judging program
+/// prints for them to another; prints how often each answer comes up.
+pub fn write(seed: u64, count: u64, flows: &str, stdout: &str) -> io::Result<()> {
+    let pool = Pool::new(seed);
+    let (mut data, mut lines) = (Vec::new(), Vec::new());
+    let mut tally = [0_u64; 21];
+    let (mut written, mut too_long, mut large, mut index) = (0, 0, 0, 0);
+    while written < count {
+        let mut rng = Rng::new(seed, 3, index);
+        index += 1;
+        let size = match rng.below(1000) {
+            0..=799 => Size::Least,
+            800..=949 => Size::Tiny,
+            950..=994 => Size::Small,
+            _ => Size::Full,
+        };
+        let flow = damage::flow_of(&mut rng, &pool, size);
+        match flow.len() {
+            length if length > MOST_BYTES + RECORD => continue,
+            length if length > MOST_BYTES && too_long == MOST_TOO_LONG => continue,
+            length if length > MOST_BYTES => too_long += 1,
+            length if length > LARGE && large == MOST_LARGE => continue,
+            length if length > LARGE => large += 1,
+            _ => (),
+        }
+        let name = format!("random-{:04}", written + 1);
+        frames::write(&mut data, &name, &flow)?;
+        writeln!(lines, "{name}")?;
+        tally[print(&mut lines, &flow)?] += 1;
+        written += 1;
+        if data.len() > MOST_WRITTEN {
+            let message = format!("{written} flows are more than {MOST_WRITTEN} bytes: ask for fewer");
+            return Err(io::Error::new(io::ErrorKind::InvalidInput, message));
+        }
+    }
+    fs::write(flows, &data)?;
+    fs::write(stdout, &lines)?;
+    println!("{written} flows, {} bytes; {} bytes of answers", data.len(), lines.len());
+    for (way, times) in tally.iter().enumerate() {
+        println!("{way:>2} {times}");
+    }
+    Ok(())
+}
+
+/// What the judging program prints, and the answer's number.
+fn print(out: &mut impl Write, flow: &[u8]) -> io::Result<usize> {
+    match reference::judge(flow) {
+        Ok(summary) => {
+            writeln!(out, "ACCEPTED {} {} {}", summary.deleghe, summary.records, summary.total)?;
+            for (line, (debit, credit)) in ["01", "03", "05", "07", "17"].iter().zip(summary.sums) {
+                writeln!(out, "{line} {debit} {credit}")?;
+            }
+            Ok(0)
+        }
+        Err(refusal) => {
+            writeln!(out, "{refusal}")?;
+            Ok(usize::from(refusal.number))
+        }
+    }
+}

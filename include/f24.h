@@ -1,0 +1,93 @@
+/* f24.h: CBI F24 flows, judged and corrected.
+ *
+ * The functions of the static library libf24.a, for C and all that speaks C on x86-64 Linux. docs/LINKING.md says how
+ * to build and link it.
+ *
+ * A flow is a run of records of 120 characters with no line ends, at most 65,520 bytes. Records and positions count
+ * from 1. Amounts are whole cents.
+ *
+ * Every function takes any bytes of any length as a flow and any number as a number: it asks nothing but that
+ *   - flow points to flow_len bytes, and answer, aligned as uint64_t is, to answer_len numbers;
+ *   - neither pointer is null, not even where its length is 0;
+ *   - the two do not overlap, and nobody else writes to them during the call.
+ * Nothing is allocated, kept between calls or printed: calls from several threads do not meet, so long as what they
+ * are lent does not.
+ *
+ * What a function returns:
+ *   0             accepted, found or made: see each function for the answer
+ *   1 to 23       the number of the refusal, as document 01 lists them. answer[0] is then the record and answer[1] the
+ *                 position, both 0 where the refusal has no place; nothing else is written
+ *   100           there is room for too few numbers in answer (F24_NO_ROOM): nothing was read, written or corrected
+ *
+ * Numbers of answer beyond those that are written stay as they were, and so does every byte of a flow that is not
+ * corrected.
+ *
+ * The sections stand in this order everywhere: Erario (lines 40-01), INPS (40-03), Regioni (40-05), IMU and local
+ * taxes (40-07), identifying elements (40-17).
+ */
+#ifndef F24_H
+#define F24_H
+
+#include <stddef.h>
+#include <stdint.h>
+
+#ifdef __cplusplus
+extern "C" {
+#endif
+
+/* The return value where answer has too little room. */
+#define F24_NO_ROOM 100
+
+/* How many numbers each answer must have room for, refusals included. */
+#define F24_JUDGE_ROOM 13
+#define F24_DELEGA_ROOM 11
+#define F24_FIND_ROOM 2
+#define F24_CORRECT_ROOM 2
+
+/* Judges a flow. Where it is accepted:
+ *   answer[0]           number of deleghe
+ *   answer[1]           number of records
+ *   answer[2]           sum of the final balances
+ *   answer[3], [4]      debit and credit sum of Erario over the flow
+ *   answer[5], [6]      of INPS
+ *   answer[7], [8]      of Regioni
+ *   answer[9], [10]     of IMU and local taxes
+ *   answer[11], [12]    of identifying elements
+ */
+uint64_t f24_judge(const uint8_t *flow, size_t flow_len, uint64_t *answer, size_t answer_len);
+
+/* Judges a flow and gives the sums of one delega, by its number. Where it is there:
+ *   answer[0]           its final balance
+ *   answer[1], [2]      debit and credit sum of its Erario section, 0 and 0 where it has none
+ *   answer[3], [4]      of INPS
+ *   answer[5], [6]      of Regioni
+ *   answer[7], [8]      of IMU and local taxes
+ *   answer[9], [10]     of identifying elements
+ * 21 where the number is 0 or above the number of deleghe.
+ */
+uint64_t f24_delega(const uint8_t *flow, size_t flow_len, uint64_t number, uint64_t *answer, size_t answer_len);
+
+/* Judges a flow and finds one line: by delega, subtype (1, 3, 5, 7 or 17) and place in its section, counted from 1.
+ * Where it is there:
+ *   answer[0]           the number of its record: its bytes start at flow + 120 * (answer[0] - 1)
+ * answer[1] is then left as it was. 21 where there is no such delega, section or line.
+ */
+uint64_t f24_find(const uint8_t *flow, size_t flow_len, uint64_t delega, uint64_t subtype, uint64_t place,
+                  uint64_t *answer, size_t answer_len);
+
+/* Judges a flow and gives one line a new debit and credit. Where that is done, the flow holds the new amounts, and
+ * the totals, sign and balance of the section, the final balance of the delega and the sum in EF are those of the
+ * lines again; no other byte has changed and the flow is accepted. Nothing is written to answer then.
+ *
+ * After the refusals of the judgement it tries 21 (no such delega, section or line), 22 (an amount above
+ * 999,999,999,999,999), 9 (the line rule), 14 (the delega would be negative) and 23 (a stored total, balance or sum
+ * would need more than fifteen digits). A refusal leaves every byte of the flow as it was.
+ */
+uint64_t f24_correct(uint8_t *flow, size_t flow_len, uint64_t delega, uint64_t subtype, uint64_t place, uint64_t debit,
+                     uint64_t credit, uint64_t *answer, size_t answer_len);
+
+#ifdef __cplusplus
+}
+#endif
+
+#endif
