@@ -12,7 +12,7 @@ use Rattle.layout.specs.Kinds.{sectionKind}
 use Rattle.rules.specs.declared.Sums.{Sums}
 use Rattle.rules.specs.State.{startState}
 use Rattle.rules.specs.Amounts.{lineRight}
-use Rattle.judge.specs.Flow.{recordsOf}
+use Rattle.judge.specs.Flow.{Refusal, recordsOf}
 use Rattle.rebalance.specs.Rebalance.{rebalanced, allFit, flat}
 use Rattle.rebalance.specs.Weigh.{anyNegative}
 use Rattle.find.specs.declared.Found.{Found}
@@ -20,6 +20,11 @@ use Rattle.find.specs.declared.Found.the-variants as Answer
 use Rattle.find.specs.Line.{foundIn}
 use Rattle.correct.specs.declared.Correction.{Correction}
 use Rattle.correct.specs.declared.Correction.the-variants.{Made, Refused}
+
+-- "A refusal is a number, a record counted from 1, and a position": those of an answer; a correction that is made has none
+abbrev pub refusalMade : Correction → Refusal
+refusalMade Made = record { number = 0; place = 0; position = 0 }
+refusalMade (Refused n r p) = record { number = n; place = r; position = p }
 
 -- the section whose lines have a subtype; past the table where there is none
 abbrev pub sectionOfKind : Kind → ℕ

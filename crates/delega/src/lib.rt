@@ -1,21 +1,14 @@
 // One delega of a flow: its final balance and its ten section sums.
 ghost use mathlib.Core.Path.{_≡_};
-ghost use Prim.Native.Nat.{_+_, _≤_};
-ghost use lib.ListN.{length};
-ghost use Rattle.layout.specs.Fields.{amountAt, valueOf};
 ghost use Rattle.rules.specs.State.{startState};
-ghost use Rattle.rules.specs.Step.{lineSums};
 ghost use Rattle.judge.specs.Flow.{recordsOf};
 ghost use Rattle.judge.specs.Plain.{Whole};
 ghost use Rattle.delega.specs.OneDelega.{refusedAs, answered, closesAt, delegaFrom, delegaOf};
 use judge::Verdict;
-use layout::Amount;
-use layout::Field;
 use layout::Flow;
 use layout::Kind;
 use rules::State;
 use rules::Sums;
-use text::Digits;
 
 // The verdict beside the delega's final balance and its sums of each of the five sections, which are zeros with a refusal.
 pub struct DelegaAnswer {
@@ -62,40 +55,6 @@ fn closes(number: u64, deleghe: u64, k: Kind) -> bool
     false
 }
 
-// The amount that starts at an index of a record; a field that is no number counts as zero.
-fn amount(rec: &[u8], start: usize) -> u64
-    requires { ⌜ (length (now rec) ≡ 120) × (start + 15 ≤ 120) ⌝ }
-    ensures { λ r. ⌜ r ≡ valueOf (now (rec .entry)) (amountAt start) ⌝ }
-{
-    let field = Field {
-        start,
-        end: start + Amount::WIDTH,
-    };
-    match judge::read_field(rec, field) {
-        Digits::Number(v) => v,
-        Digits::NonDigit(_) => 0,
-        Digits::TooLong => 0,
-    }
-}
-
-// The amounts of a record of kind k, which are zeros where it is no line.
-fn amounts(rec: &[u8], k: Kind) -> Sums
-    requires { ⌜ length (now rec) ≡ 120 ⌝ }
-    ensures { λ r. ⌜ r ≡ lineSums k (now (rec .entry)) ⌝ }
-{
-    if let Kind::Line(s) = k {
-        let section = layout::section_at(s);
-        return Sums {
-            debit: amount(rec, section.debit),
-            credit: amount(rec, section.credit),
-        };
-    }
-    Sums {
-        debit: 0,
-        credit: 0,
-    }
-}
-
 // The answer of a delega by its number, from the first record on.
 fn delega_from(flow: &[u8], number: u64) -> DelegaAnswer
     requires { ⌜ Whole (now flow) ⌝ }
@@ -109,7 +68,7 @@ fn delega_from(flow: &[u8], number: u64) -> DelegaAnswer
         if closes(number, st.deleghe, kind) {
             return answer_of(st);
         }
-        st = rules::next_state(st, kind, amounts(rec, kind));
+        st = rules::next_state(st, kind, judge::line_sums(rec, kind));
     }
     refused(21, 0, 0)
 }

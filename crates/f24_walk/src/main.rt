@@ -1,27 +1,12 @@
 // Walks the flow in the file that its argument names, and prints each record with its number.
 use layout::Flow;
-use libc::STDERR_FILENO;
 use libc::STDOUT_FILENO;
 use walk::Answer;
 use walk::Step;
 use walk::WalkPlace;
 
-// One line on standard error that says what was wrong and how the program is used.
 fn misused(what: &[u8]) {
-    io::write_all(STDERR_FILENO, b"f24_walk: ");
-    io::write_all(STDERR_FILENO, what);
-    io::write_all(STDERR_FILENO, b"; usage: f24_walk FILE\n");
-}
-
-// A refusal: its number, the record and the position.
-fn print_refusal(number: u64, record: usize, position: usize) {
-    io::write_all(STDOUT_FILENO, b"REFUSED ");
-    io::print_decimal(STDOUT_FILENO, number);
-    io::write_all(STDOUT_FILENO, b" ");
-    io::print_decimal(STDOUT_FILENO, record as u64);
-    io::write_all(STDOUT_FILENO, b" ");
-    io::print_decimal(STDOUT_FILENO, position as u64);
-    io::write_all(STDOUT_FILENO, b"\n");
+    desk::misused(b"f24_walk", what, b"FILE");
 }
 
 // A record with its number.
@@ -42,7 +27,7 @@ fn show(flow: &[u8], step: Step) -> bool {
         }
         Answer::NoMore => false,
         Answer::Refused(number, record, position) => {
-            print_refusal(number, record, position);
+            desk::print_refusal(number, record, position);
             false
         }
     }
@@ -62,39 +47,27 @@ fn walk_through(flow: &[u8]) {
     }
 }
 
-// Whether a descriptor has no more bytes to give. Where a read fails, nothing says so.
-fn at_end(fd: i32) -> bool {
-    let mut more = [0u8; 1];
-    libc::read(fd, &mut more) == 0
-}
-
-// Walks what a descriptor gives, up to one byte more than the longest flow.
+// The room holds one byte more than the longest flow, so that a longer file is refused by the judge.
 fn walk_file(fd: i32) {
     let mut room = [0u8; Flow::MOST_BYTES + 1];
     let n = io::read_full(fd, &mut room);
-    if n < room.len() {
-        if !at_end(fd) {
-            misused(b"the file cannot be read");
-            return;
-        }
+    if desk::unreadable(fd) {
+        misused(b"FILE cannot be read");
+        return;
     }
     walk_through(&room[..n]);
 }
 
 fn main() {
-    if os::arg_count() < 2 {
-        misused(b"no file is named");
-        return;
-    }
-    if os::arg_count() > 2 {
-        misused(b"more than one argument");
+    if os::arg_count() != 2 {
+        misused(b"one argument is needed");
         return;
     }
     let mut path = io::buffer();
     let n = os::arg(1, &mut path);
     let fd = os::open_read(&path[..n]);
     if fd < 0 {
-        misused(b"the file cannot be opened");
+        misused(b"FILE cannot be opened");
         return;
     }
     walk_file(fd);

@@ -11,9 +11,14 @@ use Rattle.rules.specs.State.{placedAt, atStart}
 use Rattle.rules.specs.Step.{nextPlace, nextDeleghe}
 use Rattle.judge.specs.declared.Verdict.{Verdict}
 use Rattle.judge.specs.declared.Verdict.the-variants.{Accepted, Refused}
-use Rattle.judge.specs.Flow.{recordsOf, judged}
+use Rattle.judge.specs.Flow.{Refusal, recordsOf, judged}
 use Rattle.find.specs.declared.Found.{Found}
 use Rattle.find.specs.declared.Found.the-variants as Answer
+
+-- "A refusal is a number, a record counted from 1, and a position": those of an answer; a line that is found has none
+abbrev pub refusalFound : Found → Refusal
+refusalFound (Answer.At k) = record { number = 0; place = 0; position = 0 }
+refusalFound (Answer.Refused n r p) = record { number = n; place = r; position = p }
 
 -- a record of this kind, at this place of delega e, is the n-th line of section s in delega d
 abbrev pub isLine : ℕ → ℕ → ℕ → Place → ℕ → Kind → Bool

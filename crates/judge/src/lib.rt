@@ -1,4 +1,6 @@
 // The judgement of a flow: its first failed check, or acceptance with the counts and sums of its records.
+mod lines;
+
 ghost use mathlib.Core.Path.{_≡_};
 ghost use Prim.Native.Nat.{_+_, _<_, _≤_};
 ghost use lib.ListN.{length, take, drop};
@@ -12,6 +14,7 @@ use layout::Field;
 use layout::Flow;
 use layout::Kind;
 use layout::RecordType;
+pub use lines::line_sums;
 use rules::Outcome;
 use rules::Place;
 use rules::State;

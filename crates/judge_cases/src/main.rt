@@ -1,29 +1,6 @@
 // The run cases of the judge: each stored flow is judged, and its name and the answer are printed.
 // A case is a line of 48 bytes, its name in 40 and its length in six digits, then that many bytes, then a line end.
-ghost use Prim.Native.Nat.{_≤_};
-ghost use lib.ListN.{length};
 use text::Digits;
-
-// How long the name at the start of a header is: up to its first space.
-fn name_length(head: &[u8]) -> usize
-    ensures { λ r. ⌜ r ≤ length (now (head .entry)) ⌝ }
-{
-    let mut n: usize = 0;
-    while n < head.len() {
-        if head[n] == b' ' {
-            return n;
-        }
-        n += 1;
-    }
-    n
-}
-
-// Prints a case's name.
-fn print_name(head: &[u8]) {
-    let n = name_length(head);
-    io::write_all(libc::STDOUT_FILENO, &head[0..n]);
-    io::write_all(libc::STDOUT_FILENO, b"\n");
-}
 
 // How many bytes a case has; more than the room holds where its header is none.
 fn size_of(digits: &[u8]) -> usize {
@@ -32,14 +9,6 @@ fn size_of(digits: &[u8]) -> usize {
         Digits::NonDigit(_) => 99999,
         Digits::TooLong => 99999,
     }
-}
-
-// Judges a flow and prints the answer.
-fn print_answer(flow: &[u8]) -> bool {
-    let judgement = judge::judge(flow);
-    let mut text = [0u8; 512];
-    let k = report::judgement_text(judgement, &mut text);
-    io::write_all(libc::STDOUT_FILENO, &text[..k])
 }
 
 // Reads the flow of n bytes and the line end that come next, and judges it; false where they are not there.
@@ -51,7 +20,8 @@ fn judge_next(fd: i32, room: &mut [u8], n: usize) -> bool {
     if got <= n {
         return false;
     }
-    print_answer(&room[0..n])
+    desk::print_judgement(judge::judge(&room[0..n]));
+    true
 }
 
 // One case; false where there is none left.
@@ -61,7 +31,7 @@ fn one_case(fd: i32) -> bool {
     if got < 48 {
         return false;
     }
-    print_name(&head[0..41]);
+    desk::print_name(&head[0..41]);
     let n = size_of(&head[41..47]);
     let mut room = [0u8; 65641];
     judge_next(fd, &mut room, n)

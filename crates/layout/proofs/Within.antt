@@ -22,7 +22,8 @@ within-each [] w j h = absurd (omega arith)
 within-each (f ∷ fl) w zero h = w .0
 within-each (f ∷ fl) w (suc j) h = within-each fl (w .1) j (omega arith)
 
-within-amount : (s : ℕ) → s + 15 ≤ 120 → Within (amountAt s)
+-- an amount that ends within a record is a field of it
+pub within-amount : (s : ℕ) → s + 15 ≤ 120 → Within (amountAt s)
 within-amount s h = record { forward = omega arith; inside = h; narrow = omega arith }
 
 within-number : Within delegaNumber

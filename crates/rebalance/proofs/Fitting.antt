@@ -18,10 +18,6 @@ use Rattle.rules.specs.Stored.{Stored, Value, storedBalance, storedSection, sto
 use Rattle.rebalance.specs.Rebalance.{fitsOne, fitsAll}
 use Rattle.rebalance.proofs.Written.{both-true}
 
--- An amount that starts before the last fifteen characters lies within the record.
-pub amount-within : (s : ℕ) → s + 15 ≤ 120 → Within (amountAt s)
-amount-within s h = record { forward = omega arith; inside = h; narrow = omega arith }
-
 -- A test by itself.
 pub alone : (t : Bool) → cond t true false ≡ t
 alone true = refl

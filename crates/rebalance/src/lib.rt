@@ -3,13 +3,13 @@ ghost use mathlib.Core.Path.{_≡_};
 ghost use mathlib.Core.Bool.{true};
 ghost use Prim.Native.Nat.{_-_, _^_, _<_};
 ghost use lib.ListN.{length};
-ghost use Rattle.text.specs.Numbers.{digitsOf, amountOf};
+ghost use Rattle.text.specs.Numbers.{digitsOf};
 ghost use Rattle.text.specs.Placing.{putAt};
 ghost use Rattle.layout.specs.Kinds.{kindIn};
-ghost use Rattle.layout.specs.Fields.{Within, valueOf};
+ghost use Rattle.layout.specs.Fields.{Within};
 ghost use Rattle.rules.specs.State.{startState};
 ghost use Rattle.rules.specs.Stored.{storedBalance, storedSection, storedOf};
-ghost use Rattle.rules.specs.Step.{lineSums, next};
+ghost use Rattle.rules.specs.Step.{next};
 ghost use Rattle.judge.specs.Flow.{recordsOf};
 ghost use Rattle.judge.specs.Plain.{Whole};
 ghost use Rattle.rebalance.specs.Rebalance.{putAll, emit, rebalanced, fitsAll, allFit, flat};
@@ -20,7 +20,6 @@ use layout::Flow;
 use layout::Kind;
 use rules::State;
 use rules::Sums;
-use text::Digits;
 
 // The most that a count of the tail can say in seven digits.
 const MOST_COUNT: u64 = 9_999_999;
@@ -31,65 +30,12 @@ pub struct Surveyed {
     pub fits: bool,
 }
 
-// The number that was read, and 0 where none was.
-fn amount_of(d: Digits) -> u64
-    ensures { λ r. ⌜ r ≡ amountOf d ⌝ }
-{
-    match d {
-        Digits::Number(v) => v,
-        Digits::NonDigit(_) => 0,
-        Digits::TooLong => 0,
-    }
-}
-
-// The amount in a field: a field that is no number counts 0.
-fn amount_in(rec: &[u8], field: Field) -> u64
-    requires { ⌜ (length (now rec) ≡ 120) × Within field ⌝ }
-    ensures { λ r. ⌜ r ≡ valueOf (now (rec .entry)) field ⌝ }
-{
-    amount_of(judge::read_field(rec, field))
-}
-
-// The debit and the credit of a line of section s.
-fn line_amounts(rec: &[u8], s: usize) -> Sums
-    requires { ⌜ length (now rec) ≡ 120 ⌝ }
-    ensures { λ r. ⌜ r ≡ lineSums (Kind.Line s) (now (rec .entry)) ⌝ }
-{
-    let section = layout::section_at(s);
-    let debit = amount_in(rec, layout::amount_at(section.debit));
-    let credit = amount_in(rec, layout::amount_at(section.credit));
-    Sums { debit, credit }
-}
-
-// The amounts of a line: a record that is none has none.
-fn line_sums(rec: &[u8], k: Kind) -> Sums
-    requires { ⌜ length (now rec) ≡ 120 ⌝ }
-    ensures { λ r. ⌜ r ≡ lineSums k (now (rec .entry)) ⌝ }
-{
-    let none = Sums {
-        debit: 0,
-        credit: 0,
-    };
-    match k {
-        Kind::Head => none,
-        Kind::Taxpayer => none,
-        Kind::Domicile => none,
-        Kind::Line(s) => line_amounts(rec, s),
-        Kind::Balance(_) => none,
-        Kind::Payment => none,
-        Kind::Receipt => none,
-        Kind::Addressee => none,
-        Kind::Tail => none,
-        Kind::Unknown => none,
-    }
-}
-
 // The state after a record of kind k.
 fn step(rec: &[u8], st: State, k: Kind) -> State
     requires { ⌜ Turn (now rec) st × (k ≡ kindIn (now rec)) ⌝ }
     ensures { λ r. ⌜ r ≡ next st (now (rec .entry)) ⌝ }
 {
-    rules::next_state(st, k, line_sums(rec, k))
+    rules::next_state(st, k, judge::line_sums(rec, k))
 }
 
 // Whether a 50-01 closes a delega whose debits are below its credits.

@@ -67,15 +67,15 @@ returns c =
     let q = c .before .before .before .before in
     c .answer-of .ensures ∙ sym (search-found _ _ _ _ (q .before .before .before .before .loop .inv) (q .before .before .if1 .taken) _ (q .record-at .ensures) _ (c .before .before .before .kind-in .ensures) (sym (c .before .before .closes .ensures) ∙ c .before .if2 .taken))
 
-amounts-requires : tie.Need-amounts-requires Inv-loop μ-loop
-amounts-requires c κs = whole (c .before .before .before)
+line-sums-requires : tie.Need-line-sums-requires Inv-loop μ-loop
+line-sums-requires c κs = whole (c .before .before .before)
 
 next-state-requires : tie.Need-next-state-requires Inv-loop μ-loop
 next-state-requires c κs =
     let q = c .before .before .before .before in
     let b = q .before .before .before .before .loop .inv .below in
     let s = small q in
-    ((money-room _ _ _ (omega arith) (b .money-below), rw (c .amounts .ensures) (amounts-small (c .before .before .before .kind-in .result) (r q) (whole q))), (omega (arith, b .lines-below), omega (arith, b .deleghe-below), omega arith))
+    ((money-room _ _ _ (omega arith) (b .money-below), rw (c .line-sums .ensures) (amounts-small (c .before .before .before .kind-in .result) (r q) (whole q))), (omega (arith, b .lines-below), omega (arith, b .deleghe-below), omega arith))
 
 loop-less : tie.Need-loop-less Inv-loop μ-loop
 loop-less c = let q = c .before .before .before .before .before in rw (c .next-state .ensures) (omega (arith, q .before .before .if1 .taken))
@@ -83,7 +83,7 @@ loop-less c = let q = c .before .before .before .before .before in rw (c .next-s
 loop-again : tie.Need-loop-again Inv-loop μ-loop
 loop-again c =
     let q = c .before .before .before .before .before in
-    rw (c .next-state .ensures, c .before .amounts .ensures) (search-on _ _ _ _ (q .before .before .before .before .loop .inv) (q .before .before .if1 .taken) _ (q .record-at .ensures) _ (c .before .before .before .before .kind-in .ensures) (sym (c .before .before .before .closes .ensures) ∙ c .before .before .if2 .left) (whole q))
+    rw (c .next-state .ensures, c .before .line-sums .ensures) (search-on _ _ _ _ (q .before .before .before .before .loop .inv) (q .before .before .if1 .taken) _ (q .record-at .ensures) _ (c .before .before .before .before .kind-in .ensures) (sym (c .before .before .before .closes .ensures) ∙ c .before .before .if2 .left) (whole q))
 
 refused-requires : tie.Need-refused-requires Inv-loop μ-loop
 refused-requires c κs = search needs
@@ -105,7 +105,7 @@ delega-from-spec =
     closes-requires
     answer-of-requires
     returns
-    amounts-requires
+    line-sums-requires
     next-state-requires
     loop-less
     loop-again

@@ -7,7 +7,8 @@ use Rattle.layout.proofs.Table.{near-rule}
 use Rattle.layout.specs.Sections.{sectionAt}
 use Rattle.layout.specs.declared.Section.{Section}
 use Rattle.rebalance.proofs.Stores.{totals-written, plain-written}
-use Rattle.rebalance.proofs.Fitting.{amount-within, totals-fit, plain-fit}
+use Rattle.layout.proofs.Within.{within-amount}
+use Rattle.rebalance.proofs.Fitting.{totals-fit, plain-fit}
 use Rattle.rebalance.proofs.fill_balance.Statement.{statement}
 use Rattle.rebalance.proofs.fill_balance.Tie as tie
 
@@ -26,7 +27,7 @@ store-requires c κs =
     let q = c .before .before .before in
     let p = q .before .before in
     let n = near-rule (p .args .s) in
-    (search needs, rw (c .amount-at .ensures, q .section-at .ensures) (amount-within _ (n .1 .1 .0)), rw (c .amount-at .ensures, q .section-at .ensures) (totals-fit (p .args .s) (p .args .t) (totals q true (c .before .before .if1 .taken)) (p .pre .1) .0))
+    (search needs, rw (c .amount-at .ensures, q .section-at .ensures) (within-amount _ (n .1 .1 .0)), rw (c .amount-at .ensures, q .section-at .ensures) (totals-fit (p .args .s) (p .args .t) (totals q true (c .before .before .if1 .taken)) (p .pre .1) .0))
 
 amount-at-requires-2 : tie.Need-amount-at-requires-2
 amount-at-requires-2 c κs = rw (c .before .before .before .before .before .before .before .section-at .ensures) (omega (arith, near-rule (c .before .before .before .before .before .before .before .before .before .args .s)))
@@ -36,7 +37,7 @@ store-requires-2 c κs =
     let q = c .before .before .before .before .before .before .before .before in
     let p = q .before .before in
     let n = near-rule (p .args .s) in
-    (search needs, rw (c .amount-at2 .ensures, q .section-at .ensures) (amount-within _ (n .1 .1 .1 .0)), rw (c .amount-at2 .ensures, q .section-at .ensures) (totals-fit (p .args .s) (p .args .t) (totals q true (c .before .before .before .before .before .before .before .if1 .taken)) (p .pre .1) .1))
+    (search needs, rw (c .amount-at2 .ensures, q .section-at .ensures) (within-amount _ (n .1 .1 .1 .0)), rw (c .amount-at2 .ensures, q .section-at .ensures) (totals-fit (p .args .s) (p .args .t) (totals q true (c .before .before .before .before .before .before .before .if1 .taken)) (p .pre .1) .1))
 
 fill-ends-requires : tie.Need-fill-ends-requires
 fill-ends-requires c κs =

@@ -5,7 +5,8 @@ use borrow.Author.Needs.{needs}
 use lib.ListN.{length-set}
 use Rattle.layout.proofs.Table.{near-rule}
 use Rattle.rebalance.proofs.Stores.{ends-written}
-use Rattle.rebalance.proofs.Fitting.{amount-within, ends-fit}
+use Rattle.layout.proofs.Within.{within-amount}
+use Rattle.rebalance.proofs.Fitting.{ends-fit}
 use Rattle.rebalance.proofs.fill_ends.Statement.{statement}
 use Rattle.rebalance.proofs.fill_ends.Tie as tie
 
@@ -29,7 +30,7 @@ store-requires c κs =
     let p = c .before .before .before .before .before .before in
     let x = c .before .before .before .before .section-at .ensures in
     let f = c .before .amount-at .ensures in
-    (simp length-set (p .pre .0), rw (f, x) (amount-within _ (near-rule (p .args .s) .1 .1 .1 .1 .1 .0)), rw (c .apart-of .ensures, f, x) (ends-fit (p .args .s) (p .args .t) (p .pre .1)))
+    (simp length-set (p .pre .0), rw (f, x) (within-amount _ (near-rule (p .args .s) .1 .1 .1 .1 .1 .0)), rw (c .apart-of .ensures, f, x) (ends-fit (p .args .s) (p .args .t) (p .pre .1)))
 
 same-length : tie.Need-same-length
 same-length c = c .before .before .store .kept .0 ∙ simp length-set

@@ -1,0 +1,113 @@
+-- What the linkable library returns, and what it leaves in the memory that it is lent.
+use Prim.Native.Nat.{ℕ}
+use mathlib.Core.Bool.{cond}
+use mathlib.Core.List.{List, [], _∷_, _++_}
+use lib.Dec.{ltb}
+use lib.ListN.{length, drop}
+use Rattle.rules.specs.declared.Sums.{Sums}
+use Rattle.judge.specs.declared.Verdict.{Verdict}
+use Rattle.judge.specs.declared.Verdict.the-variants.{Accepted, Refused}
+use Rattle.judge.specs.declared.Summary.{Summary}
+use Rattle.judge.specs.Flow.{judged}
+use Rattle.delega.specs.OneDelega.{delegaOf}
+use Rattle.find.specs.declared.Found.{Found}
+use Rattle.find.specs.declared.Found.the-variants as Line
+use Rattle.find.specs.Line.{foundIn}
+use Rattle.correct.specs.declared.Correction.{Correction}
+use Rattle.correct.specs.declared.Correction.the-variants as Change
+use Rattle.correct.specs.Correction.{correctionOf, correctedBytes}
+
+-- The first numbers of a room are replaced by those of a list, and the rest stays as it came.
+unfoldable pub overlay : List ℕ → List ℕ → List ℕ
+overlay xs room = xs ++ drop (length xs) room
+
+-- A room of fewer than n numbers returns 100, and any other a code.
+unfoldable pub codeOr : ℕ → List ℕ → ℕ → ℕ
+codeOr n room code = cond (ltb (length room) n) 100 code
+
+-- Such a room stays as it came, and any other is written to.
+unfoldable pub roomOr : ℕ → List ℕ → List ℕ → List ℕ
+roomOr n room xs = cond (ltb (length room) n) room (overlay xs room)
+
+-- The debit and the credit of each section stand one after the other, in the order of the sections.
+unfoldable pub sumsNumbers : List Sums → List ℕ
+sumsNumbers [] = []
+sumsNumbers (s ∷ ss) = s .debit ∷ s .credit ∷ sumsNumbers ss
+
+-- A summary is written as deleghe, records and total, and then the sums of the sections.
+unfoldable pub summaryNumbers : Summary → List ℕ
+summaryNumbers s = s .deleghe ∷ s .records ∷ s .total ∷ sumsNumbers (s .sums)
+
+-- A delega is written as its final balance, and then the sums of its sections.
+unfoldable pub delegaNumbers : ℕ → List Sums → List ℕ
+delegaNumbers balance sums = balance ∷ sumsNumbers sums
+
+-- A refusal is written as the record and the position.
+abbrev pub refusalNumbers : ℕ → ℕ → List ℕ
+refusalNumbers r p = r ∷ p ∷ []
+
+-- A verdict returns 0, or the number of the refusal.
+abbrev pub verdictCode : Verdict → ℕ
+verdictCode Accepted = 0
+verdictCode (Refused n r p) = n
+
+-- An acceptance writes the numbers of its answer, and a refusal its own.
+abbrev pub verdictNumbers : Verdict → List ℕ → List ℕ
+verdictNumbers Accepted xs = xs
+verdictNumbers (Refused n r p) xs = refusalNumbers r p
+
+-- A line that is found returns 0, and a refusal its number.
+abbrev pub foundCode : Found → ℕ
+foundCode (Line.At k) = 0
+foundCode (Line.Refused n r p) = n
+
+-- A line that is found writes the number of its record, and a refusal its own numbers.
+abbrev pub foundNumbers : Found → List ℕ
+foundNumbers (Line.At k) = k ∷ []
+foundNumbers (Line.Refused n r p) = refusalNumbers r p
+
+-- A correction that is made returns 0, and a refusal its number.
+abbrev pub correctionCode : Correction → ℕ
+correctionCode Change.Made = 0
+correctionCode (Change.Refused n r p) = n
+
+-- A correction that is made writes no number, and a refusal its own numbers.
+abbrev pub correctionNumbers : Correction → List ℕ
+correctionNumbers Change.Made = []
+correctionNumbers (Change.Refused n r p) = refusalNumbers r p
+
+-- `f24_judge` returns 100 for a room of fewer than 13 numbers, and else what the judgement of the flow says.
+unfoldable pub judgeCode : List ℕ → List ℕ → ℕ
+judgeCode f room = codeOr 13 room (verdictCode (judged f .verdict))
+
+-- It leaves such a room as it came, and else writes the summary or the refusal.
+unfoldable pub judgeRoom : List ℕ → List ℕ → List ℕ
+judgeRoom f room = roomOr 13 room (verdictNumbers (judged f .verdict) (summaryNumbers (judged f .summary)))
+
+-- `f24_delega` returns 100 for a room of fewer than 11 numbers, and else what the answer for delega d says.
+unfoldable pub delegaCode : List ℕ → ℕ → List ℕ → ℕ
+delegaCode f d room = codeOr 11 room (verdictCode (delegaOf f d .verdict))
+
+-- It leaves such a room as it came, and else writes the delega or the refusal.
+unfoldable pub delegaRoom : List ℕ → ℕ → List ℕ → List ℕ
+delegaRoom f d room = roomOr 11 room (verdictNumbers (delegaOf f d .verdict) (delegaNumbers (delegaOf f d .balance) (delegaOf f d .sums)))
+
+-- `f24_find` returns 100 for a room of fewer than 2 numbers, and else what the search for the n-th line of a subtype in delega d says.
+unfoldable pub findCode : List ℕ → ℕ → ℕ → ℕ → List ℕ → ℕ
+findCode f d subtype n room = codeOr 2 room (foundCode (foundIn f d subtype n))
+
+-- It leaves such a room as it came, and else writes the number of the record or the refusal.
+unfoldable pub findRoom : List ℕ → ℕ → ℕ → ℕ → List ℕ → List ℕ
+findRoom f d subtype n room = roomOr 2 room (foundNumbers (foundIn f d subtype n))
+
+-- `f24_correct` returns 100 for a room of fewer than 2 numbers, and else what the correction of that line says.
+unfoldable pub correctCode : List ℕ → ℕ → ℕ → ℕ → ℕ → ℕ → List ℕ → ℕ
+correctCode f d subtype n debit credit room = codeOr 2 room (correctionCode (correctionOf f d subtype n debit credit))
+
+-- It leaves such a room as it came, and else writes nothing or the refusal.
+unfoldable pub correctRoom : List ℕ → ℕ → ℕ → ℕ → ℕ → ℕ → List ℕ → List ℕ
+correctRoom f d subtype n debit credit room = roomOr 2 room (correctionNumbers (correctionOf f d subtype n debit credit))
+
+-- It leaves the flow as it came where the room is too short, and else corrects it.
+unfoldable pub correctFlow : List ℕ → ℕ → ℕ → ℕ → ℕ → ℕ → List ℕ → List ℕ
+correctFlow f d subtype n debit credit room = cond (ltb (length room) 2) f (correctedBytes f d subtype n debit credit)
