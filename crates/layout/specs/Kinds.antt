@@ -28,11 +28,14 @@ typeOf a b =
     (cond (same a b 53 48) T50
     (cond (same a b 69 70) EF NoType)))))
 
+-- what a subtype names in the row of section i; what the rows below give where it names nothing here
+abbrev pub inRow : ℕ → Section → ℕ → Kind → Kind
+inRow i x n below = cond (eqb n (x .«line_subtype»)) (Line i) (cond (eqb n (x .«balance_subtype»)) (Balance i) below)
+
 -- the line or the balance with this subtype, of the sections from the i-th on
 unfoldable pub sectionKindFrom : ℕ → List Section → ℕ → Kind
 sectionKindFrom i [] n = Unknown
-sectionKindFrom i (x ∷ xs) n =
-    cond (eqb n (x .«line_subtype»)) (Line i) (cond (eqb n (x .«balance_subtype»)) (Balance i) (sectionKindFrom (i + 1) xs n))
+sectionKindFrom i (x ∷ xs) n = inRow i x n (sectionKindFrom (i + 1) xs n)
 
 -- "Section | Line | Balance": the records of type 40
 abbrev pub sectionKind : ℕ → Kind

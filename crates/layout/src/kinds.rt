@@ -1,9 +1,10 @@
 // The kind of a record, from its type and its subtype.
 ghost use mathlib.Core.Path.{_≡_};
-ghost use Rattle.layout.specs.Kinds.{typeOf, same, sectionKind, paymentKind, kindOf};
+ghost use Rattle.layout.specs.Kinds.{typeOf, same, inRow, sectionKind, paymentKind, kindOf};
 use crate::Kind;
 use crate::RecordType;
 use crate::SECTIONS;
+use crate::Section;
 use text::Digits;
 
 fn same_pair(a: u8, b: u8, x: u8, y: u8) -> bool
@@ -37,21 +38,28 @@ pub fn type_of(a: u8, b: u8) -> RecordType
     RecordType::NoType
 }
 
-// The section's line or balance that a subtype names, looked up in the table.
+// What a subtype names in the row of section s; what the rows below give where it names nothing here.
+fn in_row(s: usize, row: Section, subtype: u64, below: Kind) -> Kind
+    ensures { λ r. ⌜ r ≡ inRow s row subtype below ⌝ }
+{
+    if subtype == row.line_subtype {
+        return Kind::Line(s);
+    }
+    if subtype == row.balance_subtype {
+        return Kind::Balance(s);
+    }
+    below
+}
+
+// The section's line or balance that a subtype names, looked up in the table. Its rows are taken by constant indexes, as in `section_at`.
 pub fn section_kind(subtype: u64) -> Kind
     ensures { λ r. ⌜ r ≡ sectionKind subtype ⌝ }
 {
-    let mut s: usize = 0;
-    while s < 5 {
-        if subtype == SECTIONS[s].line_subtype {
-            return Kind::Line(s);
-        }
-        if subtype == SECTIONS[s].balance_subtype {
-            return Kind::Balance(s);
-        }
-        s += 1;
-    }
-    Kind::Unknown
+    let fifth = in_row(4, SECTIONS[4], subtype, Kind::Unknown);
+    let fourth = in_row(3, SECTIONS[3], subtype, fifth);
+    let third = in_row(2, SECTIONS[2], subtype, fourth);
+    let second = in_row(1, SECTIONS[1], subtype, third);
+    in_row(0, SECTIONS[0], subtype, second)
 }
 
 fn payment_kind(subtype: u64) -> Kind
