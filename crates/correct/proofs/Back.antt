@@ -13,8 +13,8 @@ use Rattle.rules.specs.Stored.{storedOf}
 use Rattle.rules.specs.Step.{next}
 use Rattle.judge.specs.declared.Judgement.{Judgement}
 use Rattle.judge.specs.Flow.{recordsOf, headNameOf}
-use Rattle.judge.specs.Plain.{Whole}
-use Rattle.rebalance.specs.Rebalance.{rebalanced, stateAfter, flat, Sized}
+use Rattle.judge.specs.Plain.{Whole, stateAfter}
+use Rattle.rebalance.specs.Rebalance.{rebalanced, flat, Sized}
 use Rattle.rebalance.proofs.Emit.{emit-plain}
 use Rattle.rebalance.proofs.Rebalanced.{mendable-fits, length-rebalanced, sized-rebalanced, state-rebalanced, rebalanced-append}
 use Rattle.rebalance.proofs.Flat.{records-flat}

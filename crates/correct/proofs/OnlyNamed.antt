@@ -28,9 +28,9 @@ use Rattle.rules.specs.Stored.{Stored, sectionSums, storedOf}
 use Rattle.rules.specs.Checks.{carried, numberFault, fault}
 use Rattle.rules.specs.Step.{next}
 use Rattle.judge.specs.Flow.{recordsOf, headNameOf}
-use Rattle.judge.specs.Plain.{NoFault, Whole}
+use Rattle.judge.specs.Plain.{NoFault, Whole, stateAfter}
 use Rattle.judge.proofs.Accepted.{accepted-means-no-fault}
-use Rattle.rebalance.specs.Rebalance.{startOf, widthOf, putAll, emit, rebalanced, stateAfter, clear, Sized, flat}
+use Rattle.rebalance.specs.Rebalance.{startOf, widthOf, putAll, emit, rebalanced, clear, Sized, flat}
 use Rattle.rebalance.proofs.Columns.{line-within, Storing, plain, balance, payment, tail, storing}
 use Rattle.rebalance.proofs.Emit.{emit-same-stored, emit-plain, emit-outside, fault-kept, emit-own}
 use Rattle.rebalance.proofs.Rebalanced.{sized-rebalanced}

@@ -22,8 +22,8 @@ use Rattle.rules.specs.Checks.{negativeFault, ownFault}
 use Rattle.rules.specs.Step.{next}
 use Rattle.judge.specs.declared.Verdict.the-variants.{Accepted}
 use Rattle.judge.specs.Flow.{recordsOf, headNameOf, judged}
-use Rattle.judge.specs.Plain.{Whole}
-use Rattle.rebalance.specs.Rebalance.{stateAfter, flat, Mendable}
+use Rattle.judge.specs.Plain.{Whole, stateAfter}
+use Rattle.rebalance.specs.Rebalance.{flat, Mendable}
 use Rattle.rebalance.proofs.Rebalanced.{mendable-fits}
 use Rattle.rebalance.proofs.Judged.{flat-records, accepted-untouched}
 use Rattle.find.specs.Line.{lineOf}

@@ -19,7 +19,8 @@ use Rattle.rules.specs.declared.State.{State}
 use Rattle.rules.specs.State.{startState}
 use Rattle.rules.specs.Step.{nextPlace, nextDeleghe, next}
 use Rattle.judge.specs.Flow.{recordsOf}
-use Rattle.rebalance.specs.Rebalance.{stateAfter, Sized, flat}
+use Rattle.judge.specs.Plain.{stateAfter}
+use Rattle.rebalance.specs.Rebalance.{Sized, flat}
 use Rattle.rebalance.proofs.Written.{both-true}
 use Rattle.rebalance.proofs.Columns.{line-within}
 use Rattle.rebalance.proofs.Flat.{length-flat, records-flat}

@@ -12,9 +12,9 @@ use Rattle.rules.specs.Order.{stands}
 use Rattle.judge.specs.declared.Verdict.the-variants.{Accepted}
 use Rattle.judge.specs.declared.Judgement.{Judgement}
 use Rattle.judge.specs.Flow.{acceptedWith, recordsOf, headNameOf, judged}
-use Rattle.judge.specs.Plain.{Whole}
+use Rattle.judge.specs.Plain.{Whole, stateAfter}
 use Rattle.judge.proofs.Accepted.{judged-whole, accepted-means-no-fault}
-use Rattle.rebalance.specs.Rebalance.{stateAfter, flat, Mendable}
+use Rattle.rebalance.specs.Rebalance.{flat, Mendable}
 use Rattle.rebalance.proofs.Emit.{kept-stands}
 use Rattle.rebalance.proofs.Rebalanced.{accepted-mendable}
 use Rattle.rebalance.proofs.Flat.{name-in-front}

@@ -3,9 +3,12 @@
 ghost use Prim.Native.Nat.{_≤_};
 ghost use lib.ListN.{length};
 use args::Argument;
+use find::Found;
 use judge::Judgement;
+use judge::Verdict;
 use libc::STDERR_FILENO;
 use libc::STDOUT_FILENO;
+use text::Digits;
 
 // One line on standard error that says what was wrong and how the program is used.
 pub fn misused(program: &[u8], what: &[u8], usage: &[u8]) {
@@ -63,4 +66,87 @@ pub fn print_name(head: &[u8]) {
     let n = name_length(head);
     io::write_all(STDOUT_FILENO, &head[0..n]);
     io::write_all(STDOUT_FILENO, b"\n");
+}
+
+// What the desk is shown of one delega: its number and final balance and then its sums, or the refusal.
+pub fn print_delega(flow: &[u8], number: u64) {
+    let answer = delega::delega(flow, number);
+    let verdict = answer.verdict;
+    let sums = answer.sums;
+    match verdict {
+        Verdict::Accepted => {
+            let mut text = [0u8; 512];
+            let n = report::delega_text(number, answer.balance, sums, &mut text);
+            io::write_all(STDOUT_FILENO, &text[..n]);
+        }
+        Verdict::Refused(code, place, position) => print_refusal(code, place, position),
+    }
+}
+
+// What the desk is shown of one line: the number of its record and below it the record, or the refusal.
+pub fn print_line(flow: &[u8], delega: u64, subtype: u64, place: u64) {
+    let found = find::find(flow, delega, subtype, place);
+    match found {
+        Found::At(k) => {
+            let mut text = [0u8; 512];
+            let n = report::line_text(k, &mut text);
+            io::write_all(STDOUT_FILENO, &text[..n]);
+            io::write_all(STDOUT_FILENO, find::part_of(flow, found));
+            io::write_all(STDOUT_FILENO, b"\n");
+        }
+        Found::Refused(number, at, position) => print_refusal(number, at, position),
+    }
+}
+
+// A record with its number.
+pub fn print_record(k: usize, part: &[u8]) {
+    io::print_decimal(STDOUT_FILENO, k as u64);
+    io::write_all(STDOUT_FILENO, b" ");
+    io::write_all(STDOUT_FILENO, part);
+    io::write_all(STDOUT_FILENO, b"\n");
+}
+
+// The five numbers of a run case's call.
+pub struct Numbers {
+    pub first: u64,
+    pub second: u64,
+    pub third: u64,
+    pub fourth: u64,
+    pub fifth: u64,
+}
+
+// A number of a header; zero where its digits are none.
+fn number_of(digits: &[u8]) -> u64 {
+    match args::decimal(digits) {
+        Argument::Number(n) => n,
+        Argument::NoNumber => 0,
+    }
+}
+
+// The numbers in the header of a call: behind a name of 40 bytes, each after a space, in 20 digits.
+pub fn numbers_of(head: [u8; 153]) -> Numbers {
+    Numbers {
+        first: number_of(&head[41..61]),
+        second: number_of(&head[62..82]),
+        third: number_of(&head[83..103]),
+        fourth: number_of(&head[104..124]),
+        fifth: number_of(&head[125..145]),
+    }
+}
+
+// How many bytes the flow of a run case has; more than any room holds where the digits are none.
+pub fn size_of(digits: &[u8]) -> usize {
+    match text::number(digits) {
+        Digits::Number(n) => n as usize,
+        Digits::NonDigit(_) => 99999,
+        Digits::TooLong => 99999,
+    }
+}
+
+// Reads the n bytes and the line end that come next in a file of run cases; false where they are not there.
+pub fn read_next(fd: i32, room: &mut [u8], n: usize) -> bool {
+    if room.len() <= n {
+        return false;
+    }
+    io::read_full(fd, &mut room[0..n + 1]) == n + 1
 }

@@ -1,30 +1,9 @@
 // Prints the final balance and the section sums of one delega of the flow in a file.
 use args::Argument;
-use judge::Verdict;
 use layout::Flow;
-use libc::STDOUT_FILENO;
-use rules::Sums;
 
 fn misused(what: &[u8]) {
     desk::misused(b"f24_delega", what, b"FILE NUMBER");
-}
-
-// A delega: its number and its final balance, and then the five sections.
-fn print_delega(number: u64, balance: u64, sums: [Sums; 5]) {
-    let mut text = [0u8; 512];
-    let n = report::delega_text(number, balance, sums, &mut text);
-    io::write_all(STDOUT_FILENO, &text[..n]);
-}
-
-// Prints what is answered for a delega of a flow.
-fn answer(flow: &[u8], number: u64) {
-    let found = delega::delega(flow, number);
-    let verdict = found.verdict;
-    let sums = found.sums;
-    match verdict {
-        Verdict::Accepted => print_delega(number, found.balance, sums),
-        Verdict::Refused(code, place, position) => desk::print_refusal(code, place, position),
-    }
 }
 
 // The room holds one byte more than the longest flow, so that a longer file is refused by the judge.
@@ -35,7 +14,7 @@ fn answer_from(fd: i32, number: u64) {
         misused(b"FILE cannot be read");
         return;
     }
-    answer(&room[..n], number);
+    desk::print_delega(&room[..n], number);
 }
 
 fn main() {

@@ -1,29 +1,9 @@
 // Shows one line of the flow in a file: the number of its record and the record itself, or the refusal.
 use args::Argument;
-use find::Found;
 use layout::Flow;
-use libc::STDOUT_FILENO;
 
 fn misused(what: &[u8]) {
     desk::misused(b"f24_line", what, b"FILE DELEGA SUBTYPE PLACE");
-}
-
-// The number of the line's record, and below it the record's 120 characters.
-fn print_line(k: usize, part: &[u8]) {
-    let mut text = [0u8; 512];
-    let n = report::line_text(k, &mut text);
-    io::write_all(STDOUT_FILENO, &text[..n]);
-    io::write_all(STDOUT_FILENO, part);
-    io::write_all(STDOUT_FILENO, b"\n");
-}
-
-// Finds the line in a flow, and prints what is found.
-fn show(flow: &[u8], delega: u64, subtype: u64, place: u64) {
-    let found = find::find(flow, delega, subtype, place);
-    match found {
-        Found::At(k) => print_line(k, find::part_of(flow, found)),
-        Found::Refused(number, at, position) => desk::print_refusal(number, at, position),
-    }
 }
 
 // The room holds one byte more than the longest flow, so that a longer file is refused by the judge.
@@ -34,7 +14,7 @@ fn show_file(fd: i32, delega: u64, subtype: u64, place: u64) {
         misused(b"FILE cannot be read");
         return;
     }
-    show(&room[..n], delega, subtype, place);
+    desk::print_line(&room[..n], delega, subtype, place);
 }
 
 fn main() {

@@ -1,6 +1,5 @@
 // Walks the flow in the file that its argument names, and prints each record with its number.
 use layout::Flow;
-use libc::STDOUT_FILENO;
 use walk::Answer;
 use walk::Step;
 use walk::WalkPlace;
@@ -9,20 +8,12 @@ fn misused(what: &[u8]) {
     desk::misused(b"f24_walk", what, b"FILE");
 }
 
-// A record with its number.
-fn print_record(k: usize, part: &[u8]) {
-    io::print_decimal(STDOUT_FILENO, k as u64);
-    io::write_all(STDOUT_FILENO, b" ");
-    io::write_all(STDOUT_FILENO, part);
-    io::write_all(STDOUT_FILENO, b"\n");
-}
-
 // Prints what a step answers, and says whether the walk goes on.
 fn show(flow: &[u8], step: Step) -> bool {
     let answer = step.answer;
     match answer {
         Answer::Shown(k) => {
-            print_record(k, walk::part_at(flow, step));
+            desk::print_record(k, walk::part_at(flow, step));
             true
         }
         Answer::NoMore => false,

@@ -1,23 +1,12 @@
 // The run cases of the judge: each stored flow is judged, and its name and the answer are printed.
 // A case is a line of 48 bytes, its name in 40 and its length in six digits, then that many bytes, then a line end.
-use text::Digits;
 
-// How many bytes a case has; more than the room holds where its header is none.
-fn size_of(digits: &[u8]) -> usize {
-    match text::number(digits) {
-        Digits::Number(n) => n as usize,
-        Digits::NonDigit(_) => 99999,
-        Digits::TooLong => 99999,
-    }
-}
-
-// Reads the flow of n bytes and the line end that come next, and judges it; false where they are not there.
+// Reads a flow of n bytes and judges it; false where it is not there.
 fn judge_next(fd: i32, room: &mut [u8], n: usize) -> bool {
-    if room.len() <= n {
+    if room.len() < n {
         return false;
     }
-    let got = io::read_full(fd, &mut room[0..n + 1]);
-    if got <= n {
+    if !desk::read_next(fd, &mut *room, n) {
         return false;
     }
     desk::print_judgement(judge::judge(&room[0..n]));
@@ -32,7 +21,7 @@ fn one_case(fd: i32) -> bool {
         return false;
     }
     desk::print_name(&head[0..41]);
-    let n = size_of(&head[41..47]);
+    let n = desk::size_of(&head[41..47]);
     let mut room = [0u8; 65641];
     judge_next(fd, &mut room, n)
 }

@@ -17,7 +17,8 @@ use Rattle.rules.specs.Stored.{storedOf}
 use Rattle.rules.specs.Step.{next}
 use Rattle.judge.specs.declared.Verdict.the-variants.{Accepted}
 use Rattle.judge.specs.Flow.{acceptedWith, judgedFrom, recordsOf, headNameOf, judged}
-use Rattle.rebalance.specs.Rebalance.{rebalanced, stateAfter, flat, Sized, Mendable}
+use Rattle.judge.specs.Plain.{stateAfter}
+use Rattle.rebalance.specs.Rebalance.{rebalanced, flat, Sized, Mendable}
 use Rattle.rebalance.proofs.Emit.{emit-plain, kept-stands}
 use Rattle.rebalance.proofs.Rebalanced.{rebalanced-accepted, accepted-own, length-rebalanced, sized-rebalanced}
 use Rattle.rebalance.proofs.Flat.{length-flat, records-flat, flat-chunks, sized-chunks, name-in-front}

@@ -15,7 +15,8 @@ use Rattle.rules.specs.Step.{next}
 use Rattle.judge.specs.declared.Verdict.the-variants.{Accepted}
 use Rattle.judge.specs.declared.Judgement.{Judgement}
 use Rattle.judge.specs.Flow.{refusedWith, acceptedWith, closing, after, judgedFrom}
-use Rattle.rebalance.specs.Rebalance.{emit, rebalanced, stateAfter, allFit, Sized, Mendable}
+use Rattle.judge.specs.Plain.{stateAfter}
+use Rattle.rebalance.specs.Rebalance.{emit, rebalanced, allFit, Sized, Mendable}
 use Rattle.rebalance.proofs.Emit.{emit-length, next-emit, emit-again, emit-passes, fault-kept, fault-fits, emit-own}
 
 -- Records that rebalancing mends are accepted after it, with the sums of their lines.

@@ -51,11 +51,6 @@ unfoldable pub rebalanced : State → List (List ℕ) → List (List ℕ)
 rebalanced st [] = []
 rebalanced st (r ∷ rs) = emit st r ∷ rebalanced (next st r) rs
 
--- The state after all records.
-unfoldable pub stateAfter : State → List (List ℕ) → State
-stateAfter st [] = st
-stateAfter st (r ∷ rs) = stateAfter (next st r) rs
-
 -- A number fits its field where it has no more digits than the field, and a sign is one character.
 abbrev pub fitsOne : Stored → Bool
 fitsOne (Value n f v) = ltb v (10 ^ (f .end - f .start))
