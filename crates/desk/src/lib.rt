@@ -1,7 +1,12 @@
 // What the desk's programs have in common: arguments, refusals, and one line for what went wrong.
-// What is read from or written to a descriptor is outside what a contract can say, so these promise only that they are safe and end.
+// What comes from or goes to a descriptor, and what the arguments are, is outside what a contract can say: a function that only prints or
+// asks promises that it is safe and ends. What can be said of an answer or of lent room is said.
+ghost use mathlib.Core.Path.{_≡_};
+ghost use mathlib.Core.Bool.{false};
 ghost use Prim.Native.Nat.{_≤_};
 ghost use lib.ListN.{length};
+ghost use Rattle.args.specs.Decimal.{decimalOf};
+ghost use Rattle.desk.specs.Header.{orZero, numbersOf, sizeOf};
 use args::Argument;
 use find::Found;
 use judge::Judgement;
@@ -116,7 +121,9 @@ pub struct Numbers {
 }
 
 // A number of a header; zero where its digits are none.
-fn number_of(digits: &[u8]) -> u64 {
+fn number_of(digits: &[u8]) -> u64
+    ensures { λ r. ⌜ r ≡ orZero (decimalOf (now (digits .entry))) ⌝ }
+{
     match args::decimal(digits) {
         Argument::Number(n) => n,
         Argument::NoNumber => 0,
@@ -124,7 +131,9 @@ fn number_of(digits: &[u8]) -> u64 {
 }
 
 // The numbers in the header of a call: behind a name of 40 bytes, each after a space, in 20 digits.
-pub fn numbers_of(head: [u8; 153]) -> Numbers {
+pub fn numbers_of(head: [u8; 153]) -> Numbers
+    ensures { λ r. ⌜ r ≡ numbersOf head ⌝ }
+{
     Numbers {
         first: number_of(&head[41..61]),
         second: number_of(&head[62..82]),
@@ -135,7 +144,9 @@ pub fn numbers_of(head: [u8; 153]) -> Numbers {
 }
 
 // How many bytes the flow of a run case has; more than any room holds where the digits are none.
-pub fn size_of(digits: &[u8]) -> usize {
+pub fn size_of(digits: &[u8]) -> usize
+    ensures { λ r. ⌜ r ≡ sizeOf (now (digits .entry)) ⌝ }
+{
     match text::number(digits) {
         Digits::Number(n) => n as usize,
         Digits::NonDigit(_) => 99999,
@@ -143,8 +154,11 @@ pub fn size_of(digits: &[u8]) -> usize {
     }
 }
 
-// Reads the n bytes and the line end that come next in a file of run cases; false where they are not there.
-pub fn read_next(fd: i32, room: &mut [u8], n: usize) -> bool {
+// Reads the n bytes and the line end that come next in a file of run cases; false where they are not there. A room that is too short is
+// left as it came.
+pub fn read_next(fd: i32, room: &mut [u8], n: usize) -> bool
+    ensures { λ r. ⌜ ((length (now (room .entry)) ≤ n) → (r ≡ false) × (now (room .exit) ≡ now (room .entry))) ⌝ }
+{
     if room.len() <= n {
         return false;
     }
