@@ -6,7 +6,7 @@ use lib.ListN.{length}
 use Rattle.layout.specs.declared.Kind.{Kind}
 use Rattle.layout.specs.declared.Kind.the-variants.{Head, Taxpayer, Domicile, Line, Balance, Payment, Receipt, Addressee, Tail, Unknown}
 use Rattle.layout.specs.Kinds.{sectionKind, kindIn}
-use Rattle.rules.specs.declared.Place.{Place}
+use Rattle.rules.specs.declared.Stage.{Stage}
 use Rattle.rules.specs.declared.State.{State}
 use Rattle.rules.specs.State.{startState}
 use Rattle.rules.specs.Stored.{storedOf}
@@ -31,7 +31,7 @@ use Rattle.correct.proofs.Rewritten.{AllAlike, alike-rebalanced, alike-
 use Rattle.correct.proofs.SameAmounts.{mendable-positive, Own, own}
 
 -- A line is found by the kinds of the records.
-line-by-kinds : (d s n : ℕ) (p : Place) (e j : ℕ) (xs ys : List (List ℕ)) → map kindIn xs ≡ map kindIn ys → lineFrom d s n p e j xs ≡ lineFrom d s n p e j ys
+line-by-kinds : (d s n : ℕ) (p : Stage) (e j : ℕ) (xs ys : List (List ℕ)) → map kindIn xs ≡ map kindIn ys → lineFrom d s n p e j xs ≡ lineFrom d s n p e j ys
 unfolding lineFrom
 line-by-kinds d s n p e j [] [] h = refl
 line-by-kinds d s n p e j [] (y ∷ ys) h = cc
@@ -109,9 +109,9 @@ module _ (f : List ℕ) (d subtype n x y : ℕ) (m : MayBeMade f d subtype n x y
       let z : storedOf st (kindIn line) ≡ [] = rw kind-line in
       records-g ∙ (ap (rebalanced startState) records-t ∙ (rebalanced-append startState (p .before) (line ∷ p .behind) ∙ ap (λ (r : List ℕ). rebalanced startState (p .before) ++ (r ∷ rebalanced (next st line) (p .behind))) (emit-plain st line z)))
 
-  -- The line is found there at the same place.
-  same-place : lineOf g d subtype n ≡ k
-  same-place =
+  -- The line is found there at the same record.
+  same-record : lineOf g d subtype n ≡ k
+  same-record =
       line-same g f d subtype n
       (ap (map kindIn) records-g
       ∙ (same-kinds (alike-rebalanced startState (recordsOf t) sized-t) ∙ rw (records-t, p .split, map-append, map-append, kind-line, p .kind)))
@@ -141,7 +141,7 @@ module _ (f : List ℕ) (d subtype n x y : ℕ) (m : MayBeMade f d subtype n x y
   back-alike : AllAlike (recordsOf (withAmounts g d subtype n u v)) (recordsOf f)
   back-alike =
       rw (
-        same-place,
+        same-record,
         records-replaced g whole-g split-at u v,
         amended-again s (within-table f (w .even) p) (p .here) (length-here f (w .even) p) x y u v,
         mine .same,
@@ -154,7 +154,7 @@ module _ (f : List ℕ) (d subtype n x y : ℕ) (m : MayBeMade f d subtype n x y
   back-may =
       record {
         accepted = ap (λ (j : Judgement). j .verdict) (refreshed-accepted f d subtype n x y m);
-        found = λ z. m .found (sym same-place ∙ z);
+        found = λ z. m .found (sym same-record ∙ z);
         debit-fits = mine .debit-fits;
         credit-fits = mine .credit-fits;
         right = mine .right;

@@ -23,7 +23,7 @@ use Rattle.rules.specs.Order.{first, standing}
 use Rattle.rules.specs.Amounts.{lineRight, lineFault}
 use Rattle.rules.specs.Stored.{storedOf}
 use Rattle.rules.specs.Checks.{charFault, badFields, numberFault, negativeFault, ownFault}
-use Rattle.rules.specs.Step.{nextPlace, nextDeleghe, nextOf, next}
+use Rattle.rules.specs.Step.{nextStage, nextDeleghe, nextOf, next}
 use Rattle.rebalance.specs.Rebalance.{fitsAll, allFit, keptFields, keptFault, Mendable}
 use Rattle.rebalance.proofs.Written.{both-true, digits-pass}
 use Rattle.rebalance.proofs.Columns.{line-within}
@@ -33,7 +33,7 @@ use Rattle.correct.proofs.Amended.{amended, length-amended, amended-par
 -- The checks that rebalancing leaves alone, one by one.
 pub record Kept (name : List ℕ) (st : State) (r : List ℕ) : Type 0 where
   pub characters : charFault (firstBad r) ≡ Pass
-  pub order : standing (st .place) (typeIn r) (kindIn r) ≡ Pass
+  pub order : standing (st .stage) (typeIn r) (kindIn r) ≡ Pass
   pub digits : badFields (keptFields (kindIn r)) r ≡ Pass
   pub number : numberFault (st .deleghe) (kindIn r) (valueOf r delegaNumber) ≡ Pass
   pub own : ownFault name st (kindIn r) r ≡ Pass
@@ -48,7 +48,7 @@ pub kept-each : (name : List ℕ) (st : State) (r : List ℕ) → keptFault name
 unfolding keptFault
 kept-each name st r e =
     let a = first-pass (charFault (firstBad r)) _ e in
-    let b = first-pass (standing (st .place) (typeIn r) (kindIn r)) _ (a .1) in
+    let b = first-pass (standing (st .stage) (typeIn r) (kindIn r)) _ (a .1) in
     let c = first-pass (badFields (keptFields (kindIn r)) r) _ (b .1) in
     let d = first-pass (numberFault (st .deleghe) (kindIn r) (valueOf r delegaNumber)) _ (c .1) in
     record { characters = a .0; order = b .0; digits = c .0; number = d .0; own = d .1 }
@@ -60,14 +60,14 @@ kept-all name st r k = rw (k .characters, k .order, k .digits, k .number, k .own
 
 -- Two states that differ in money only.
 pub record Near (a b : State) : Type 0 where
-  pub places : a .place ≡ b .place
+  pub stages : a .stage ≡ b .stage
   pub numbers : a .deleghe ≡ b .deleghe
   pub counts : a .seen ≡ b .seen
 
 -- So do those after a record of the same kind, whatever its amounts.
 pub near-on : (a b : State) (k : Kind) (x y : Sums) → Near a b → Near (nextOf a k x) (nextOf b k y)
 near-on a b k x y n =
-    record { places = ap (λ p. nextPlace p k) (n .places); numbers = ap (λ m. nextDeleghe m k) (n .numbers); counts = ap (λ (m : ℕ). m + 1) (n .counts) }
+    record { stages = ap (λ p. nextStage p k) (n .stages); numbers = ap (λ m. nextDeleghe m k) (n .numbers); counts = ap (λ (m : ℕ). m + 1) (n .counts) }
 
 -- Of a record's own rules only that on the delega looks at money.
 own-near : (name : List ℕ) (a b : State) (k : Kind) (r : List ℕ) → negativeAt b k ≡ false → ownFault name a k r ≡ Pass → ownFault name b k r ≡ Pass
@@ -91,13 +91,13 @@ neither false b e = (refl, e)
 -- Records that rebalancing mends after one state, it mends after another that differs in money only, where no delega is negative and all fits.
 mended-near : (name : List ℕ) (a b : State) (rs : List (List ℕ)) → Near a b → Mendable name a rs → anyNegative b rs ≡ false → allFit b rs ≡ true → Mendable name b rs
 unfolding anyNegative allFit next
-mended-near name a b [] n m p f = rw (n .places) at m
+mended-near name a b [] n m p f = rw (n .stages) at m
 mended-near name a b (r ∷ rs) n m p f =
     let u = neither (negativeAt b (kindIn r)) _ p in
     let v = both-true (fitsAll (storedOf b (kindIn r))) _ f in
     let k = kept-each name a r (m .1) in (
       m .0,
-      kept-all name b r (record { characters = k .characters; order = rw (n .places) at (k .order); digits = k .digits; number = rw (n .numbers) at (k .number); own = own-near name a b (kindIn r) r (u .0) (k .own) }),
+      kept-all name b r (record { characters = k .characters; order = rw (n .stages) at (k .order); digits = k .digits; number = rw (n .numbers) at (k .number); own = own-near name a b (kindIn r) r (u .0) (k .own) }),
       v .0,
       mended-near name (next a r) (next b r) rs (near-on a b (kindIn r) _ _ n) (m .3) (u .1) (v .1),
     )
@@ -164,7 +164,7 @@ module _ (name : List ℕ) (st : State) (r : List ℕ) (l : length r ≡ 120) (s
     mended-here : (rs : List (List ℕ)) → Mendable name st (r ∷ rs) → anyNegative st (amended s x y r ∷ rs) ≡ false → allFit st (amended s x y r ∷ rs) ≡ true → Mendable name st (amended s x y r ∷ rs)
     unfolding anyNegative allFit next
     mended-here rs m p f =
-        let n : Near (next st r) (next st (amended s x y r)) = rw (kind-amended s w r l x y) (near-on st st (kindIn r) _ _ (record { places = refl; numbers = refl; counts = refl })) in
+        let n : Near (next st r) (next st (amended s x y r)) = rw (kind-amended s w r l x y) (near-on st st (kindIn r) _ _ (record { stages = refl; numbers = refl; counts = refl })) in
         let u = neither (negativeAt st (kindIn (amended s x y r))) _ p in
         let v = both-true (fitsAll (storedOf st (kindIn (amended s x y r)))) _ f in
         (length-amended s w r l x y, kept-amended (m .1), v .0, mended-near name _ _ rs n (m .3) (u .1) (v .1))

@@ -79,7 +79,7 @@ outside c x xs e = go (leb (x .start) c) (ltb c (x .end)) refl refl e
 put-outside : (a : ℕ) (bs r : List ℕ) → a + length bs ≤ length r → (c : ℕ) → (c < a) ⊎ (a + length bs ≤ c) → getD (putAt a bs r) c 0 ≡ getD r c 0
 put-outside a bs r h c o = ⊎-elim (put-byte-before a bs r h c 0) (put-byte-after a bs r h c 0) o
 
--- Fields are the places of stored ones.
+-- Fields are the columns of stored ones.
 abbrev Covers : List Field → List Stored → Type 0
 Covers [] [] = Unit {0}
 Covers [] (x ∷ xs) = ⊥

@@ -65,7 +65,7 @@ unfolding next addedAt
 off-line d s st r t n e f =
     rw (e, f)
     (record {
-      near = near-on st st (Line s) _ _ (record { places = refl; numbers = refl; counts = refl });
+      near = near-on st st (Line s) _ _ (record { stages = refl; numbers = refl; counts = refl });
       others = set-set (st .money .delega .sections) s _ noSums ∙ sym (set-set (st .money .delega .sections) s _ noSums);
       elsewhere = λ h. absurd (h n);
     })

@@ -69,15 +69,15 @@ put-past-all x (y ∷ ys) r h a e l =
     let c = both-true _ (clear (startOf x) (widthOf x) ys) e in
     put-past-all x ys (put y r) h (t .others) (c .1) (length-written y r (t .room) l) ∙ ap (putAll ys) (put-past x y r (omega arith) (omega (arith, t .room)) (c .0))
 
--- Two lists of stored fields that stand at the same places.
-abbrev SamePlaces : List Stored → List Stored → Type 0
-SamePlaces [] [] = Unit {0}
-SamePlaces [] (y ∷ ys) = ⊥
-SamePlaces (x ∷ xs) [] = ⊥
-SamePlaces (x ∷ xs) (y ∷ ys) = (startOf x ≡ startOf y) × (widthOf x ≡ widthOf y) × SamePlaces xs ys
+-- Two lists of stored fields that stand in the same columns.
+abbrev SameColumns : List Stored → List Stored → Type 0
+SameColumns [] [] = Unit {0}
+SameColumns [] (y ∷ ys) = ⊥
+SameColumns (x ∷ xs) [] = ⊥
+SameColumns (x ∷ xs) (y ∷ ys) = (startOf x ≡ startOf y) × (widthOf x ≡ widthOf y) × SameColumns xs ys
 
 -- The one written over the other leaves nothing of it.
-putAll-over : (xs ys : List Stored) (r : List ℕ) → SamePlaces xs ys → laid ys ≡ true → length r ≡ 120 → putAll xs (putAll ys r) ≡ putAll xs r
+putAll-over : (xs ys : List Stored) (r : List ℕ) → SameColumns xs ys → laid ys ≡ true → length r ≡ 120 → putAll xs (putAll ys r) ≡ putAll xs r
 unfolding putAll
 putAll-over [] [] r p a l = refl
 putAll-over [] (y ∷ ys) r p a l = absurd p
@@ -93,16 +93,16 @@ putAll-over (x ∷ xs) (y ∷ ys) r p a l =
 abbrev pub row : ℕ → Sums → Bool → List Stored
 row s x t = cond t (Value 10 (amountAt (sectionAt s .«total_debit»)) (x .debit) ∷ Value 11 (amountAt (sectionAt s .«total_credit»)) (x .credit) ∷ storedBalance s x) (storedBalance s x)
 
--- They stand at the same places whatever the sums.
-row-places : (s : ℕ) (x y : Sums) (t : Bool) → SamePlaces (row s x t) (row s y t)
-row-places s x y true = (refl, refl, (refl, refl, (refl, refl, (refl, refl, tt))))
-row-places s x y false = (refl, refl, (refl, refl, tt))
+-- They stand in the same columns whatever the sums.
+row-columns : (s : ℕ) (x y : Sums) (t : Bool) → SameColumns (row s x t) (row s y t)
+row-columns s x y true = (refl, refl, (refl, refl, (refl, refl, (refl, refl, tt))))
+row-columns s x y false = (refl, refl, (refl, refl, tt))
 
--- What any state stores in a record of a kind stands at the same places.
+-- What any state stores in a record of a kind stands in the same columns.
 over-kind : {b : State} {k : Kind} → Storing b k → (a : State) (r : List ℕ) → length r ≡ 120 → putAll (storedOf a k) (putAll (storedOf b k) r) ≡ putAll (storedOf a k) r
 unfolding putAll
 over-kind (plain e f) a r l = rw e
-over-kind {b} (balance s h) a r l = putAll-over (storedOf a (Balance s)) (storedOf b (Balance s)) r (row-places s (sectionSums a s) (sectionSums b s) (sectionAt s .totals)) (columns {st = b} (balance s h) .laid-out) l
+over-kind {b} (balance s h) a r l = putAll-over (storedOf a (Balance s)) (storedOf b (Balance s)) r (row-columns s (sectionSums a s) (sectionSums b s) (sectionAt s .totals)) (columns {st = b} (balance s h) .laid-out) l
 over-kind {b} payment a r l = putAll-over (storedOf a Payment) (storedOf b Payment) r (refl, refl, tt) (columns {st = b} payment .laid-out) l
 over-kind {b} tail a r l = putAll-over (storedOf a Tail) (storedOf b Tail) r (refl, refl, (refl, refl, (refl, refl, tt))) (columns {st = b} tail .laid-out) l
 

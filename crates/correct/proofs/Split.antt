@@ -14,10 +14,10 @@ use Rattle.layout.specs.declared.Kind.{Kind}
 use Rattle.layout.specs.declared.Kind.the-variants.{Head, Taxpayer, Domicile, Line, Balance, Payment, Receipt, Addressee, Tail, Unknown}
 use Rattle.layout.specs.Sections.{sectionAt}
 use Rattle.layout.specs.Kinds.{sectionKind, kindIn}
-use Rattle.rules.specs.declared.Place.{Place}
+use Rattle.rules.specs.declared.Stage.{Stage}
 use Rattle.rules.specs.declared.State.{State}
 use Rattle.rules.specs.State.{startState}
-use Rattle.rules.specs.Step.{nextPlace, nextDeleghe, next}
+use Rattle.rules.specs.Step.{nextStage, nextDeleghe, next}
 use Rattle.judge.specs.Flow.{recordsOf}
 use Rattle.judge.specs.Plain.{stateAfter}
 use Rattle.rebalance.specs.Rebalance.{Sized, flat}
@@ -40,7 +40,7 @@ pub record Split (d s : ℕ) (st : State) (j k : ℕ) (rs : List (List ℕ)) : T
   pub number : stateAfter st before .deleghe ≡ d
 
 -- A record that is such a line is of the section, in the delega.
-is-line : (d s n : ℕ) (p : Place) (e : ℕ) (k : Kind) → isLine d s n p e k ≡ true → (k ≡ Line s) × (e ≡ d)
+is-line : (d s n : ℕ) (p : Stage) (e : ℕ) (k : Kind) → isLine d s n p e k ≡ true → (k ≡ Line s) × (e ≡ d)
 is-line d s n p e Head h = (cc, cc)
 is-line d s n p e Taxpayer h = (cc, cc)
 is-line d s n p e Domicile h = (cc, cc)
@@ -56,15 +56,15 @@ is-line d s n p e Tail h = (cc, cc)
 is-line d s n p e Unknown h = (cc, cc)
 
 -- A line that is found among records splits them.
-split-from : (d s n : ℕ) (st : State) (j k : ℕ) (rs : List (List ℕ)) → lineFrom d s n (st .place) (st .deleghe) j rs ≡ k → (k ≡ 0 → ⊥) → Split d s st j k rs
+split-from : (d s n : ℕ) (st : State) (j k : ℕ) (rs : List (List ℕ)) → lineFrom d s n (st .stage) (st .deleghe) j rs ≡ k → (k ≡ 0 → ⊥) → Split d s st j k rs
 unfolding lineFrom next stateAfter
 split-from d s n st j k [] e h = absurd (h (sym e))
-split-from d s n st j k (r ∷ rs) e h = go (isLine d s n (st .place) (st .deleghe) (kindIn r)) refl e (λ f. split-from d s n (next st r) (j + 1) k rs f h)
+split-from d s n st j k (r ∷ rs) e h = go (isLine d s n (st .stage) (st .deleghe) (kindIn r)) refl e (λ f. split-from d s n (next st r) (j + 1) k rs f h)
   where
-    go : (t : Bool) → isLine d s n (st .place) (st .deleghe) (kindIn r) ≡ t → cond t (j + 1) (lineFrom d s n (nextPlace (st .place) (kindIn r)) (nextDeleghe (st .deleghe) (kindIn r)) (j + 1) rs) ≡ k →
-        (lineFrom d s n (nextPlace (st .place) (kindIn r)) (nextDeleghe (st .deleghe) (kindIn r)) (j + 1) rs ≡ k → Split d s (next st r) (j + 1) k rs) → Split d s st j k (r ∷ rs)
+    go : (t : Bool) → isLine d s n (st .stage) (st .deleghe) (kindIn r) ≡ t → cond t (j + 1) (lineFrom d s n (nextStage (st .stage) (kindIn r)) (nextDeleghe (st .deleghe) (kindIn r)) (j + 1) rs) ≡ k →
+        (lineFrom d s n (nextStage (st .stage) (kindIn r)) (nextDeleghe (st .deleghe) (kindIn r)) (j + 1) rs ≡ k → Split d s (next st r) (j + 1) k rs) → Split d s st j k (r ∷ rs)
     go true t f on =
-        let a = is-line d s n (st .place) (st .deleghe) (kindIn r) t in
+        let a = is-line d s n (st .stage) (st .deleghe) (kindIn r) t in
         record { before = []; here = r; behind = rs; split = refl; counted = omega arith; kind = a .0; number = a .1 }
     go false t f on =
         let p = on f in

@@ -118,4 +118,4 @@ one-stays-accepted f d subtype n x y a = go (correctionOf f d subtype n x y) ref
 pub series-stays-accepted : (cs : List Call) (f : List ℕ) → judged f .verdict ≡ Accepted → judged (after cs f) .verdict ≡ Accepted
 unfolding after
 series-stays-accepted [] f a = a
-series-stays-accepted (c ∷ cs) f a = series-stays-accepted cs _ (one-stays-accepted f (c .delega) (c .subtype) (c .place) (c .debit) (c .credit) a)
+series-stays-accepted (c ∷ cs) f a = series-stays-accepted cs _ (one-stays-accepted f (c .delega) (c .subtype) (c .nth) (c .debit) (c .credit) a)

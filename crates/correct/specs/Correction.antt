@@ -5,14 +5,13 @@ use mathlib.Core.List.{List}
 use lib.Dec.{eqb, ltb}
 use Rattle.text.specs.Numbers.{digitsOf}
 use Rattle.text.specs.Placing.{putAt}
-use Rattle.layout.specs.declared.Kind.{Kind}
-use Rattle.layout.specs.declared.Kind.the-variants.{Head, Taxpayer, Domicile, Line, Balance, Payment, Receipt, Addressee, Tail, Unknown}
 use Rattle.layout.specs.Sections.{sectionAt}
-use Rattle.layout.specs.Kinds.{sectionKind}
+use Rattle.layout.specs.Kinds.{ofLine, sectionKind}
 use Rattle.rules.specs.declared.Sums.{Sums}
 use Rattle.rules.specs.State.{startState}
 use Rattle.rules.specs.Amounts.{lineRight}
-use Rattle.judge.specs.Flow.{Refusal, recordsOf}
+use Rattle.judge.specs.Refusal.{Refusal, refusal, noRefusal}
+use Rattle.judge.specs.Flow.{recordsOf}
 use Rattle.rebalance.specs.Rebalance.{rebalanced, allFit, flat}
 use Rattle.rebalance.specs.Weigh.{anyNegative}
 use Rattle.find.specs.declared.Found.{Found}
@@ -21,26 +20,14 @@ use Rattle.find.specs.Line.{foundIn}
 use Rattle.correct.specs.declared.Correction.{Correction}
 use Rattle.correct.specs.declared.Correction.the-variants.{Made, Refused}
 
--- "A refusal is a number, a record counted from 1, and a position": those of an answer; a correction that is made has none
+-- the refusal of an answer; a correction that is made has none
 abbrev pub refusalMade : Correction → Refusal
-refusalMade Made = record { number = 0; place = 0; position = 0 }
-refusalMade (Refused n r p) = record { number = n; place = r; position = p }
+refusalMade Made = noRefusal
+refusalMade (Refused n r p) = refusal n r p
 
 -- the section whose lines have a subtype; past the table where there is none
-abbrev pub sectionOfKind : Kind → ℕ
-sectionOfKind Head = 5
-sectionOfKind Taxpayer = 5
-sectionOfKind Domicile = 5
-sectionOfKind (Line s) = s
-sectionOfKind (Balance s) = 5
-sectionOfKind Payment = 5
-sectionOfKind Receipt = 5
-sectionOfKind Addressee = 5
-sectionOfKind Tail = 5
-sectionOfKind Unknown = 5
-
 abbrev pub sectionOf : ℕ → ℕ
-sectionOf subtype = sectionOfKind (sectionKind subtype)
+sectionOf subtype = ofLine 5 (λ s. s) (sectionKind subtype)
 
 -- the flow with the amounts of its k-th record, a line of section s, replaced
 unfoldable pub replaced : ℕ → ℕ → ℕ → ℕ → List ℕ → List ℕ
@@ -80,10 +67,10 @@ abbrev pub bytesAfter : Correction → List ℕ → List ℕ → List ℕ
 bytesAfter Made new old = new
 bytesAfter (Refused n r p) new old = old
 
-abbrev pub placeFound : Found → ℕ
-placeFound (Answer.At k) = k
-placeFound (Answer.Refused n r p) = 0
+abbrev pub recordFound : Found → ℕ
+recordFound (Answer.At k) = k
+recordFound (Answer.Refused n r p) = 0
 
 unfoldable pub correctedBytes : List ℕ → ℕ → ℕ → ℕ → ℕ → ℕ → List ℕ
 correctedBytes f d subtype n debit credit =
-    bytesAfter (correctionOf f d subtype n debit credit) (refreshed (replaced (placeFound (foundIn f d subtype n)) (sectionOf subtype) debit credit f)) f
+    bytesAfter (correctionOf f d subtype n debit credit) (refreshed (replaced (recordFound (foundIn f d subtype n)) (sectionOf subtype) debit credit f)) f

@@ -44,11 +44,11 @@ creditOf f d subtype n = valueOf (recordNamed f d subtype n) (amountAt (sectionA
 pub record Call : Type 0 where
   pub delega : ℕ
   pub subtype : ℕ
-  pub place : ℕ
+  pub nth : ℕ
   pub debit : ℕ
   pub credit : ℕ
 
 -- The flow after calls one after the other.
 unfoldable pub after : List Call → List ℕ → List ℕ
 after [] f = f
-after (c ∷ cs) f = after cs (correctedBytes f (c .delega) (c .subtype) (c .place) (c .debit) (c .credit))
+after (c ∷ cs) f = after cs (correctedBytes f (c .delega) (c .subtype) (c .nth) (c .debit) (c .credit))

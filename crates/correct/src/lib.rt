@@ -20,18 +20,10 @@ pub enum Correction {
 fn section_of(subtype: u64) -> usize
     ensures { λ r. ⌜ r ≡ sectionOf subtype ⌝ }
 {
-    match layout::section_kind(subtype) {
-        Kind::Head => 5,
-        Kind::Taxpayer => 5,
-        Kind::Domicile => 5,
-        Kind::Line(s) => s,
-        Kind::Balance(_) => 5,
-        Kind::Payment => 5,
-        Kind::Receipt => 5,
-        Kind::Addressee => 5,
-        Kind::Tail => 5,
-        Kind::Unknown => 5,
-    }
+    let Kind::Line(s) = layout::section_kind(subtype) else {
+        return 5;
+    };
+    s
 }
 
 // Writes a line's new amounts, at the indexes where they start.
@@ -121,14 +113,14 @@ pub fn correct(
     flow: &mut [u8],
     delega: u64,
     subtype: u64,
-    place: u64,
+    nth: u64,
     debit: u64,
     credit: u64,
 ) -> Correction
-    ensures { λ r. ⌜ (r ≡ correctionOf (now (flow .entry)) delega subtype place debit credit)
-        × (now (flow .exit) ≡ correctedBytes (now (flow .entry)) delega subtype place debit credit) ⌝ }
+    ensures { λ r. ⌜ (r ≡ correctionOf (now (flow .entry)) delega subtype nth debit credit)
+        × (now (flow .exit) ≡ correctedBytes (now (flow .entry)) delega subtype nth debit credit) ⌝ }
 {
-    match find::find(flow, delega, subtype, place) {
+    match find::find(flow, delega, subtype, nth) {
         Found::At(k) => try_line(&mut *flow, k, section_of(subtype), debit, credit),
         Found::Refused(number, record, position) => Correction::Refused(number, record, position),
     }

@@ -30,8 +30,8 @@ fn make(flow: &mut [u8], expected: &[u8], call: Numbers) {
             print_comparison(flow, expected);
             desk::print_judgement(judge::judge(flow));
         }
-        Correction::Refused(number, place, position) => {
-            desk::print_refusal(number, place, position);
+        Correction::Refused(number, at, position) => {
+            desk::print_refusal(number, at, position);
             print_comparison(flow, expected);
         }
     }

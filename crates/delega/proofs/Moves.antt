@@ -31,8 +31,8 @@ openAt p = cond (ltb 1 p) (cond (ltb p 6) 1 0) 0
 
 -- n deleghe have their 50-01; the sums are zero where none is open
 pub record Between (n : ℕ) (st : State) : Type 0 where
-  pub counted : st .deleghe ≡ n + openAt (st .place .phase)
-  pub settled : openAt (st .place .phase) ≡ 0 → st .money .delega ≡ zeroDelega
+  pub counted : st .deleghe ≡ n + openAt (st .stage .phase)
+  pub settled : openAt (st .stage .phase) ≡ 0 → st .money .delega ≡ zeroDelega
   pub five : length (st .money .delega .sections) ≡ 5
 
 -- before the first record
@@ -101,13 +101,13 @@ numbered : (name : List ℕ) (st : State) (r : List ℕ) → fault name st r ≡
 unfolding fault
 numbered name st r e =
     let a = first-pass (charFault (firstBad r)) _ e in
-    let b = first-pass (standing (st .place) (typeIn r) (kindIn r)) _ (a .1) in
+    let b = first-pass (standing (st .stage) (typeIn r) (kindIn r)) _ (a .1) in
     let c = first-pass (badFields (fieldsOf (kindIn r)) r) _ (b .1) in
     first-pass (numberFault (st .deleghe) (kindIn r) (valueOf r delegaNumber)) _ (c .1) .0
 
 module _ (n : ℕ) (st : State) (b : Between n st) where
   -- nothing changes that is counted here
-  same : (on : State) → on .deleghe ≡ st .deleghe → on .money .delega ≡ st .money .delega → openAt (on .place .phase) ≡ openAt (st .place .phase) → Between n on
+  same : (on : State) → on .deleghe ≡ st .deleghe → on .money .delega ≡ st .money .delega → openAt (on .stage .phase) ≡ openAt (st .stage .phase) → Between n on
   same on e m o =
       record {
         counted = omega (arith, b .counted);
@@ -115,27 +115,27 @@ module _ (n : ℕ) (st : State) (b : Between n st) where
         five = ap (λ (t : DelegaSums). length (t .sections)) m ∙ b .five;
       }
 
-  move : (k : Kind) (v : ℕ) (x : Sums) → stands (st .place) k ≡ true → numberFault (st .deleghe) k v ≡ Pass → Move n st k v (nextOf st k x)
+  move : (k : Kind) (v : ℕ) (x : Sums) → stands (st .stage) k ≡ true → numberFault (st .deleghe) k v ≡ Pass → Move n st k v (nextOf st k x)
   unfolding stands numberFault addedAt
-  move Head v x o c = Keeps (λ f m d i. (refl, refl, refl)) refl (same _ refl refl (sym (ap openAt (eqb-true (st .place .phase) atStart o))))
+  move Head v x o c = Keeps (λ f m d i. (refl, refl, refl)) refl (same _ refl refl (sym (ap openAt (eqb-true (st .stage .phase) atStart o))))
   move Taxpayer v x o c =
-      let z = among-open 0 (st .place .phase) (afterHead ∷ afterPayment ∷ afterReceipt ∷ afterAddressee ∷ []) (refl, (refl, (refl, (refl, tt)))) o in
+      let z = among-open 0 (st .stage .phase) (afterHead ∷ afterPayment ∷ afterReceipt ∷ afterAddressee ∷ []) (refl, (refl, (refl, (refl, tt)))) o in
       Keeps (λ f m d i. (refl, refl, refl)) (sym (b .settled z)) (record { counted = omega (arith, b .counted); settled = λ y. refl; five = refl })
-  move Domicile v x o c = Keeps (λ f m d i. (refl, refl, refl)) refl (same _ refl refl (sym (ap openAt (eqb-true (st .place .phase) afterTaxpayer o))))
+  move Domicile v x o c = Keeps (λ f m d i. (refl, refl, refl)) refl (same _ refl refl (sym (ap openAt (eqb-true (st .stage .phase) afterTaxpayer o))))
   move (Line s) v x o c =
-      let z = line-open (st .place .phase) _ _ o in
+      let z = line-open (st .stage .phase) _ _ o in
       let w = carried-number (st .deleghe) v c in
       Adds s refl (omega (arith, b .counted)) (record { counted = omega (arith, b .counted); settled = λ y. absurd (omega arith); five = simp length-set (b .five) })
-  move (Balance s) v x o c = Keeps (λ f m d i. (refl, refl, refl)) refl (same _ refl refl (sym (balance-open (st .place .phase) _ o)))
+  move (Balance s) v x o c = Keeps (λ f m d i. (refl, refl, refl)) refl (same _ refl refl (sym (balance-open (st .stage .phase) _ o)))
   move Payment v x o c =
-      let z = ap openAt (eqb-true (st .place .phase) afterBalance o) in
+      let z = ap openAt (eqb-true (st .stage .phase) afterBalance o) in
       let w = carried-number (st .deleghe) v c in
       Pays refl (omega (arith, b .counted)) (omega (arith, b .counted)) (record { counted = omega (arith, b .counted); settled = λ y. refl; five = refl })
-  move Receipt v x o c = Keeps (λ f m d i. (refl, refl, refl)) refl (same _ refl refl (sym (ap openAt (eqb-true (st .place .phase) afterPayment o))))
-  move Addressee v x o c = Keeps (λ f m d i. (refl, refl, refl)) refl (same _ refl refl (sym (ap openAt (eqb-true (st .place .phase) afterReceipt o))))
+  move Receipt v x o c = Keeps (λ f m d i. (refl, refl, refl)) refl (same _ refl refl (sym (ap openAt (eqb-true (st .stage .phase) afterPayment o))))
+  move Addressee v x o c = Keeps (λ f m d i. (refl, refl, refl)) refl (same _ refl refl (sym (ap openAt (eqb-true (st .stage .phase) afterReceipt o))))
   move Tail v x o c =
       Keeps (λ f m d i. (refl, refl, refl)) refl
-      (same _ refl refl (sym (among-open 0 (st .place .phase) (afterPayment ∷ afterReceipt ∷ afterAddressee ∷ []) (refl, (refl, (refl, tt))) o)))
+      (same _ refl refl (sym (among-open 0 (st .stage .phase) (afterPayment ∷ afterReceipt ∷ afterAddressee ∷ []) (refl, (refl, (refl, tt))) o)))
   move Unknown v x o c = absurd (false≢true o)
 
   -- what a record that passes does

@@ -85,7 +85,7 @@ module _ (s : List ℕ) (d : ℕ) (D : Side → DelegaSums → ℕ) (g : Side �
 
   -- the state after the records, which end a flow with at least d deleghe
   abbrev Ends : State → List (List ℕ) → Type 0
-  Ends st rs = (stateAfter st rs .place .phase ≡ afterTail) × (d ≤ stateAfter st rs .deleghe)
+  Ends st rs = (stateAfter st rs .stage .phase ≡ afterTail) × (d ≤ stateAfter st rs .deleghe)
 
   -- the delega is the next to have its 50-01
   here : (n : ℕ) (st : State) (rs : List (List ℕ)) → n + 1 ≡ d → Between n st → NoFault (headNameOf s) st rs → Ends st rs → (t u : ℕ) →

@@ -4,14 +4,13 @@ use mathlib.Core.Bool.{Bool, false, cond}
 use mathlib.Core.List.{List, [], _∷_}
 use lib.Dec.{eqb, ltb}
 use Rattle.layout.specs.declared.Kind.{Kind}
-use Rattle.layout.specs.declared.Kind.the-variants.{Head, Taxpayer, Domicile, Line, Balance, Payment, Receipt, Addressee, Tail, Unknown}
-use Rattle.layout.specs.Kinds.{kindIn}
+use Rattle.layout.specs.Kinds.{ofPayment, kindIn}
 use Rattle.rules.specs.declared.State.{State}
 use Rattle.rules.specs.State.{zeroSections, startState}
 use Rattle.rules.specs.Amounts.{finalOf}
 use Rattle.rules.specs.Step.{next}
-use Rattle.judge.specs.declared.Verdict.{Verdict}
 use Rattle.judge.specs.declared.Verdict.the-variants.{Accepted, Refused}
+use Rattle.judge.specs.Refusal.{judgedFirst}
 use Rattle.judge.specs.Flow.{recordsOf, judged}
 use Rattle.delega.specs.declared.DelegaAnswer.{DelegaAnswer}
 
@@ -29,29 +28,15 @@ answered st = record { verdict = Accepted; balance = finalOf (st .money .delega 
 
 -- "one record 50-01": a record of a kind, after n records 10, is that of delega d
 abbrev pub closesAt : ℕ → ℕ → Kind → Bool
-closesAt d n Head = false
-closesAt d n Taxpayer = false
-closesAt d n Domicile = false
-closesAt d n (Line s) = false
-closesAt d n (Balance s) = false
-closesAt d n Payment = eqb n d
-closesAt d n Receipt = false
-closesAt d n Addressee = false
-closesAt d n Tail = false
-closesAt d n Unknown = false
+closesAt d n k = ofPayment false (eqb n d) k
 
 -- "The first delega is 1, each next one is one more": the answer at the 50-01 of delega d, among the records that are left after those that led to a state
 unfoldable pub delegaFrom : ℕ → State → List (List ℕ) → DelegaAnswer
 delegaFrom d st [] = noSuchDelega
 delegaFrom d st (r ∷ rs) = cond (closesAt d (st .deleghe) (kindIn r)) (answered st) (delegaFrom d (next st r) rs)
 
--- "Every call on a flow judges it first and gives that refusal if there is one"
-abbrev pub ifAccepted : Verdict → DelegaAnswer → DelegaAnswer
-ifAccepted Accepted a = a
-ifAccepted (Refused n r p) a = refusedAs n r p
-
--- "a number that is 0 or above the count is refused 21"
+-- "Every call on a flow judges it first and gives that refusal if there is one"; "a number that is 0 or above the count is refused 21"
 unfoldable pub delegaOf : List ℕ → ℕ → DelegaAnswer
 delegaOf s d =
-    ifAccepted (judged s .verdict)
+    judgedFirst refusedAs (judged s .verdict)
     (cond (eqb d 0) noSuchDelega (cond (ltb (judged s .summary .deleghe) d) noSuchDelega (delegaFrom d startState (recordsOf s))))

@@ -18,11 +18,11 @@ pub struct DelegaAnswer {
 }
 
 // A refusal beside zeros.
-fn refused(number: u64, place: usize, position: usize) -> DelegaAnswer
-    ensures { λ r. ⌜ r ≡ refusedAs number place position ⌝ }
+fn refused(number: u64, at: usize, position: usize) -> DelegaAnswer
+    ensures { λ r. ⌜ r ≡ refusedAs number at position ⌝ }
 {
     DelegaAnswer {
-        verdict: Verdict::Refused(number, place, position),
+        verdict: Verdict::Refused(number, at, position),
         balance: 0,
         sums: [Sums {
             debit: 0,
@@ -79,8 +79,8 @@ pub fn delega(flow: &[u8], number: u64) -> DelegaAnswer
 {
     let judgement = judge::judge(flow);
     let verdict = judgement.verdict;
-    if let Verdict::Refused(code, place, position) = verdict {
-        return refused(code, place, position);
+    if let Verdict::Refused(code, at, position) = verdict {
+        return refused(code, at, position);
     }
     if number == 0 {
         return refused(21, 0, 0);

@@ -48,8 +48,8 @@ pub fn print_judgement(judgement: Judgement) {
 }
 
 // A refusal: its number, the record and the position.
-pub fn print_refusal(number: u64, place: usize, position: usize) {
-    print_judgement(judge::refused(number, place, position));
+pub fn print_refusal(number: u64, at: usize, position: usize) {
+    print_judgement(judge::refused(number, at, position));
 }
 
 // How long the name at the start of a header is: up to its first space.
@@ -84,13 +84,13 @@ pub fn print_delega(flow: &[u8], number: u64) {
             let n = report::delega_text(number, answer.balance, sums, &mut text);
             io::write_all(STDOUT_FILENO, &text[..n]);
         }
-        Verdict::Refused(code, place, position) => print_refusal(code, place, position),
+        Verdict::Refused(code, at, position) => print_refusal(code, at, position),
     }
 }
 
 // What the desk is shown of one line: the number of its record and below it the record, or the refusal.
-pub fn print_line(flow: &[u8], delega: u64, subtype: u64, place: u64) {
-    let found = find::find(flow, delega, subtype, place);
+pub fn print_line(flow: &[u8], delega: u64, subtype: u64, nth: u64) {
+    let found = find::find(flow, delega, subtype, nth);
     match found {
         Found::At(k) => {
             let mut text = [0u8; 512];

@@ -132,16 +132,16 @@ pub extern "C" fn f24_find(
     flow: &[u8],
     delega: u64,
     subtype: u64,
-    place: u64,
+    nth: u64,
     answer: &mut [u64],
 ) -> u64
-    ensures { λ r. ⌜ (r ≡ findCode (now (flow .entry)) delega subtype place (now (answer .entry)))
-        × (now (answer .exit) ≡ findRoom (now (flow .entry)) delega subtype place (now (answer .entry))) ⌝ }
+    ensures { λ r. ⌜ (r ≡ findCode (now (flow .entry)) delega subtype nth (now (answer .entry)))
+        × (now (answer .exit) ≡ findRoom (now (flow .entry)) delega subtype nth (now (answer .entry))) ⌝ }
 {
     if answer.len() < FIND_ROOM {
         return NO_ROOM;
     }
-    match find::find(flow, delega, subtype, place) {
+    match find::find(flow, delega, subtype, nth) {
         Found::At(k) => {
             let numbers = [k as u64];
             put(&mut *answer, &numbers);
@@ -160,19 +160,19 @@ pub extern "C" fn f24_correct(
     flow: &mut [u8],
     delega: u64,
     subtype: u64,
-    place: u64,
+    nth: u64,
     debit: u64,
     credit: u64,
     answer: &mut [u64],
 ) -> u64
-    ensures { λ r. ⌜ (r ≡ correctCode (now (flow .entry)) delega subtype place debit credit (now (answer .entry)))
-        × (now (flow .exit) ≡ correctFlow (now (flow .entry)) delega subtype place debit credit (now (answer .entry)))
-        × (now (answer .exit) ≡ correctRoom (now (flow .entry)) delega subtype place debit credit (now (answer .entry))) ⌝ }
+    ensures { λ r. ⌜ (r ≡ correctCode (now (flow .entry)) delega subtype nth debit credit (now (answer .entry)))
+        × (now (flow .exit) ≡ correctFlow (now (flow .entry)) delega subtype nth debit credit (now (answer .entry)))
+        × (now (answer .exit) ≡ correctRoom (now (flow .entry)) delega subtype nth debit credit (now (answer .entry))) ⌝ }
 {
     if answer.len() < CORRECT_ROOM {
         return NO_ROOM;
     }
-    match correct::correct(&mut *flow, delega, subtype, place, debit, credit) {
+    match correct::correct(&mut *flow, delega, subtype, nth, debit, credit) {
         Correction::Made => 0,
         Correction::Refused(number, at, position) => {
             put_refusal(&mut *answer, at, position);

@@ -12,7 +12,7 @@ use libc::types::timespec;
 struct Call {
     delega: u64,
     subtype: u64,
-    place: u64,
+    nth: u64,
     debit: u64,
     credit: u64,
 }
@@ -154,7 +154,7 @@ fn correct_flow(path: &[u8], access: Access, flow: &mut [u8], call: Call) {
         &mut *flow,
         call.delega,
         call.subtype,
-        call.place,
+        call.nth,
         call.debit,
         call.credit,
     ) {
@@ -220,7 +220,7 @@ fn correct_file(call: Call) {
 }
 
 // Reads the new amounts, and corrects the named line.
-fn correct_line(delega: u64, subtype: u64, place: u64) {
+fn correct_line(delega: u64, subtype: u64, nth: u64) {
     let Argument::Number(debit) = desk::number_at(5) else {
         misused(b"DEBIT is not a number of 1 to 20 digits below 2^64");
         return;
@@ -232,7 +232,7 @@ fn correct_line(delega: u64, subtype: u64, place: u64) {
     correct_file(Call {
         delega,
         subtype,
-        place,
+        nth,
         debit,
         credit,
     });
@@ -251,9 +251,9 @@ fn main() {
         misused(b"SUBTYPE is not a number of 1 to 20 digits below 2^64");
         return;
     };
-    let Argument::Number(place) = desk::number_at(4) else {
+    let Argument::Number(nth) = desk::number_at(4) else {
         misused(b"PLACE is not a number of 1 to 20 digits below 2^64");
         return;
     };
-    correct_line(delega, subtype, place);
+    correct_line(delega, subtype, nth);
 }

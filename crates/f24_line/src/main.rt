@@ -7,14 +7,14 @@ fn misused(what: &[u8]) {
 }
 
 // The room holds one byte more than the longest flow, so that a longer file is refused by the judge.
-fn show_file(fd: i32, delega: u64, subtype: u64, place: u64) {
+fn show_file(fd: i32, delega: u64, subtype: u64, nth: u64) {
     let mut room = [0u8; Flow::MOST_BYTES + 1];
     let n = io::read_full(fd, &mut room);
     if desk::unreadable(fd) {
         misused(b"FILE cannot be read");
         return;
     }
-    desk::print_line(&room[..n], delega, subtype, place);
+    desk::print_line(&room[..n], delega, subtype, nth);
 }
 
 fn main() {
@@ -30,7 +30,7 @@ fn main() {
         misused(b"SUBTYPE is not a number of 1 to 20 digits below 2^64");
         return;
     };
-    let Argument::Number(place) = desk::number_at(4) else {
+    let Argument::Number(nth) = desk::number_at(4) else {
         misused(b"PLACE is not a number of 1 to 20 digits below 2^64");
         return;
     };
@@ -41,6 +41,6 @@ fn main() {
         misused(b"FILE cannot be opened");
         return;
     }
-    show_file(fd, delega, subtype, place);
+    show_file(fd, delega, subtype, nth);
     libc::close(fd);
 }

@@ -11,9 +11,9 @@ use lib.Seq.{drop-drop, length-take-le}
 use Rattle.layout.specs.declared.Kind.{Kind}
 use Rattle.layout.specs.declared.Kind.the-variants.{Head, Taxpayer, Domicile, Line, Balance, Payment, Receipt, Addressee, Tail, Unknown}
 use Rattle.layout.specs.Kinds.{sectionKind, kindIn}
-use Rattle.rules.specs.declared.Place.{Place}
-use Rattle.rules.specs.State.{placedAt, atStart}
-use Rattle.rules.specs.Step.{nextPlace, nextDeleghe}
+use Rattle.rules.specs.declared.Stage.{Stage}
+use Rattle.rules.specs.State.{stageAt, atStart}
+use Rattle.rules.specs.Step.{nextStage, nextDeleghe}
 use Rattle.judge.specs.declared.Verdict.{Verdict}
 use Rattle.judge.specs.declared.Verdict.the-variants.{Accepted, Refused}
 use Rattle.judge.specs.Flow.{chunks, recordsOf, judged}
@@ -36,10 +36,10 @@ chunk-at (suc n) (suc i) s h =
     ∙ rw (drop-drop (i * 120) 120 s) (ap (λ (j : ℕ). take 120 (drop j s)) (let e : 120 + i * 120 ≡ suc i * 120 = omega arith in e))
 
 -- the search names no record behind those that are left
-from-bound : (d s n : ℕ) (p : Place) (e k : ℕ) (rs : List (List ℕ)) → lineFrom d s n p e k rs ≤ k + length rs
+from-bound : (d s n : ℕ) (p : Stage) (e k : ℕ) (rs : List (List ℕ)) → lineFrom d s n p e k rs ≤ k + length rs
 unfolding lineFrom
 from-bound d s n p e k [] = omega arith
-from-bound d s n p e k (r ∷ rs) = go (isLine d s n p e (kindIn r)) (from-bound d s n (nextPlace p (kindIn r)) (nextDeleghe e (kindIn r)) (k + 1) rs)
+from-bound d s n p e k (r ∷ rs) = go (isLine d s n p e (kindIn r)) (from-bound d s n (nextStage p (kindIn r)) (nextDeleghe e (kindIn r)) (k + 1) rs)
   where
     go : (b : Bool) {m : ℕ} → m ≤ k + 1 + length rs → cond b (k + 1) m ≤ k + suc (length rs)
     go true h = omega arith
@@ -49,7 +49,7 @@ kind-bound : (d n : ℕ) (f : List ℕ) (k : Kind) → lineOfKind d k n f ≤ le
 kind-bound d n f Head = omega arith
 kind-bound d n f Taxpayer = omega arith
 kind-bound d n f Domicile = omega arith
-kind-bound d n f (Line s) = omega (arith, from-bound d s n (placedAt atStart 0 0) 0 0 (recordsOf f), length-chunks (length f / 120) f)
+kind-bound d n f (Line s) = omega (arith, from-bound d s n (stageAt atStart 0 0) 0 0 (recordsOf f), length-chunks (length f / 120) f)
 kind-bound d n f (Balance s) = omega arith
 kind-bound d n f Payment = omega arith
 kind-bound d n f Receipt = omega arith

@@ -13,9 +13,9 @@ use Rattle.layout.proofs.Kind.{the-type}
 use Rattle.layout.specs.declared.Kind.{Kind}
 use Rattle.layout.specs.declared.Kind.the-variants.{Head, Taxpayer, Domicile, Line, Balance, Payment, Receipt, Addressee, Tail, Unknown}
 use Rattle.layout.specs.Kinds.{sectionKind, kindIn}
-use Rattle.rules.specs.declared.Place.{Place}
-use Rattle.rules.specs.State.{placedAt, atStart}
-use Rattle.rules.specs.Step.{nextPlace, nextDeleghe}
+use Rattle.rules.specs.declared.Stage.{Stage}
+use Rattle.rules.specs.State.{stageAt, atStart}
+use Rattle.rules.specs.Step.{nextStage, nextDeleghe}
 use Rattle.judge.specs.declared.Verdict.the-variants.{Accepted, Refused}
 use Rattle.judge.specs.Flow.{chunks, recordsOf, restOf, judged}
 use Rattle.find.specs.declared.Found.the-variants as Answer
@@ -28,7 +28,7 @@ others = 0 ∷ 1 ∷ 2 ∷ 4 ∷ 5 ∷ 6 ∷ 7 ∷ 8 ∷ 9 ∷ []
 abbrev NoLine : Kind → Type 0
 NoLine k = OneOf others (tagOf the-type k)
 
-pub no-line : (d s n : ℕ) (p : Place) (e : ℕ) (k : Kind) → NoLine k → isLine d s n p e k ≡ false
+pub no-line : (d s n : ℕ) (p : Stage) (e : ℕ) (k : Kind) → NoLine k → isLine d s n p e k ≡ false
 no-line d s n p e Head t = refl
 no-line d s n p e Taxpayer t = refl
 no-line d s n p e Domicile t = refl
@@ -53,7 +53,7 @@ no-section d n f Tail t = refl
 no-section d n f Unknown t = refl
 
 -- a record adds at most one line to a section, and opens at most one delega
-lines-on : (n : ℕ) (p : Place) (k : Kind) → p .lines ≤ n → nextPlace p k .lines ≤ n + 1
+lines-on : (n : ℕ) (p : Stage) (k : Kind) → p .lines ≤ n → nextStage p k .lines ≤ n + 1
 lines-on n p Head h = omega arith
 lines-on n p Taxpayer h = omega arith
 lines-on n p Domicile h = omega arith
@@ -79,42 +79,42 @@ deleghe-on n d Unknown h = omega arith
 
 -- the number of the line's record, where the whole flow is searched
 abbrev pub sought : List ℕ → ℕ → ℕ → ℕ → ℕ
-sought f d s n = lineFrom d s n (placedAt atStart 0 0) 0 0 (recordsOf f)
+sought f d s n = lineFrom d s n (stageAt atStart 0 0) 0 0 (recordsOf f)
 
--- the search has come to place p of delega e behind k records: what is sought, the rest gives from there
-pub record Searching (f : List ℕ) (d s n : ℕ) (p : Place) (e k : ℕ) : Type 0 where
+-- the search has come to stage p of delega e behind k records: what is sought, the rest gives from there
+pub record Searching (f : List ℕ) (d s n : ℕ) (p : Stage) (e k : ℕ) : Type 0 where
   pub ahead : k ≤ length f / 120
   pub rest : sought f d s n ≡ lineFrom d s n p e k (restOf f k)
   pub lines-below : p .lines ≤ k
   pub deleghe-below : e ≤ k
 
-pub search-starts : (f : List ℕ) (d s n : ℕ) → Searching f d s n (placedAt atStart 0 0) 0 0
+pub search-starts : (f : List ℕ) (d s n : ℕ) → Searching f d s n (stageAt atStart 0 0) 0 0
 search-starts f d s n = record { ahead = omega arith; rest = rw sub-zero; lines-below = omega arith; deleghe-below = omega arith }
 
 chunks-on : (m n k : ℕ) (s : List ℕ) → m ≡ suc n → chunks m (drop (k * 120) s) ≡ take 120 (drop (k * 120) s) ∷ chunks n (drop ((k + 1) * 120) s)
 unfolding chunks
 chunks-on m n k s e = rw (e, drop-drop 120 (k * 120) s) (ap (λ (j : ℕ). take 120 (drop (k * 120) s) ∷ chunks n (drop j s)) (let h : k * 120 + 120 ≡ (k + 1) * 120 = omega arith in h))
 
-module _ (f : List ℕ) (d s n : ℕ) (p : Place) (e k : ℕ) (g : Searching f d s n p e k) where
+module _ (f : List ℕ) (d s n : ℕ) (p : Stage) (e k : ℕ) (g : Searching f d s n p e k) where
   -- no record is left
   pub search-ends : length f / 120 ≤ k → sought f d s n ≡ 0
   unfolding lineFrom chunks
   search-ends h = g .rest ∙ ap (λ (m : ℕ). lineFrom d s n p e k (chunks m (drop (k * 120) f))) (let z : length f / 120 - k ≡ 0 = omega arith in z)
 
   module _ (more : k < length f / 120) (r : List ℕ) (er : r ≡ take 120 (drop (k * 120) f)) (kd : Kind) (ek : kd ≡ kindIn r) where
-    opened : sought f d s n ≡ cond (isLine d s n p e kd) (k + 1) (lineFrom d s n (nextPlace p kd) (nextDeleghe e kd) (k + 1) (restOf f (k + 1)))
+    opened : sought f d s n ≡ cond (isLine d s n p e kd) (k + 1) (lineFrom d s n (nextStage p kd) (nextDeleghe e kd) (k + 1) (restOf f (k + 1)))
     unfolding lineFrom
     opened =
         g .rest
         ∙ (ap (lineFrom d s n p e k) (chunks-on (length f / 120 - k) (length f / 120 - (k + 1)) k f (omega arith))
-        ∙ ap (λ (x : Kind). cond (isLine d s n p e x) (k + 1) (lineFrom d s n (nextPlace p x) (nextDeleghe e x) (k + 1) (restOf f (k + 1)))) (ap kindIn (sym er) ∙ sym ek))
+        ∙ ap (λ (x : Kind). cond (isLine d s n p e x) (k + 1) (lineFrom d s n (nextStage p x) (nextDeleghe e x) (k + 1) (restOf f (k + 1)))) (ap kindIn (sym er) ∙ sym ek))
 
     -- the record is the line
     pub search-finds : isLine d s n p e kd ≡ true → sought f d s n ≡ k + 1
     search-finds t = rw t at opened
 
     -- the record is another
-    pub search-on : isLine d s n p e kd ≡ false → Searching f d s n (nextPlace p kd) (nextDeleghe e kd) (k + 1)
+    pub search-on : isLine d s n p e kd ≡ false → Searching f d s n (nextStage p kd) (nextDeleghe e kd) (k + 1)
     search-on t = record { ahead = omega arith; rest = rw t at opened; lines-below = lines-on k p kd (g .lines-below); deleghe-below = deleghe-on k e kd (g .deleghe-below) }
 
 -- the answer by how far the judgement and the look-up of the subtype have come

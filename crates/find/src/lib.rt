@@ -2,14 +2,15 @@
 ghost use mathlib.Core.Path.{_≡_};
 ghost use Prim.Native.Nat.{_+_, _<_, _≤_};
 ghost use lib.ListN.{length};
-ghost use Rattle.rules.specs.State.{placedAt, atStart};
+ghost use Rattle.rules.specs.State.{stageAt, atStart};
 ghost use Rattle.judge.specs.Flow.{recordsOf};
+ghost use Rattle.judge.specs.Part.{LiesAt};
 ghost use Rattle.find.specs.Line.{isLine, lineFrom, foundIn};
 ghost use Rattle.find.specs.Part.{partStart, partOf};
 use judge::Verdict;
 use layout::Flow;
 use layout::Kind;
-use rules::Place;
+use rules::Stage;
 
 // The answer: the number of the line's record, counted from 1, or the refusal.
 pub enum Found {
@@ -23,10 +24,10 @@ pub struct FoundLine<'a> {
     pub answer: Found,
 }
 
-// A record of this kind, at this place of the delega opened last, is the line that is asked for.
-fn is_line(delega: u64, section: usize, place: u64, at: Place, opened: u64, kind: Kind) -> bool
+// A record of this kind, at this stage of the delega opened last, is the line that is asked for.
+fn is_line(delega: u64, section: usize, nth: u64, at: Stage, opened: u64, kind: Kind) -> bool
     requires { ⌜ at .lines < 1000 ⌝ }
-    ensures { λ r. ⌜ r ≡ isLine delega section place at opened kind ⌝ }
+    ensures { λ r. ⌜ r ≡ isLine delega section nth at opened kind ⌝ }
 {
     let Kind::Line(s) = kind else {
         return false;
@@ -37,17 +38,17 @@ fn is_line(delega: u64, section: usize, place: u64, at: Place, opened: u64, kind
     if opened != delega {
         return false;
     }
-    at.lines + 1 == place
+    at.lines + 1 == nth
 }
 
 // The number of the line's record in a flow of at most 546 records, or 0 where there is no such line.
-fn line_in(flow: &[u8], delega: u64, section: usize, place: u64) -> usize
+fn line_in(flow: &[u8], delega: u64, section: usize, nth: u64) -> usize
     requires { ⌜ length (now flow) ≤ 65520 ⌝ }
-    ensures { λ r. ⌜ r ≡ lineFrom delega section place (placedAt atStart 0 0) 0 0 (recordsOf (now (flow .entry))) ⌝ }
+    ensures { λ r. ⌜ r ≡ lineFrom delega section nth (stageAt atStart 0 0) 0 0 (recordsOf (now (flow .entry))) ⌝ }
 {
     let count = flow.len() / Flow::RECORD;
-    let mut at = Place {
-        phase: Place::START,
+    let mut at = Stage {
+        phase: Stage::START,
         section: 0,
         lines: 0,
     };
@@ -56,10 +57,10 @@ fn line_in(flow: &[u8], delega: u64, section: usize, place: u64) -> usize
     while k < count {
         let rec = judge::record_at(flow, k * Flow::RECORD);
         let kind = judge::kind_in(rec);
-        if is_line(delega, section, place, at, opened, kind) {
+        if is_line(delega, section, nth, at, opened, kind) {
             return k + 1;
         }
-        at = rules::next_place(at, kind);
+        at = rules::next_stage(at, kind);
         opened = rules::next_deleghe(opened, kind);
         k += 1;
     }
@@ -67,8 +68,8 @@ fn line_in(flow: &[u8], delega: u64, section: usize, place: u64) -> usize
 }
 
 // The flow is judged first, and its refusal is handed on.
-pub fn find(flow: &[u8], delega: u64, subtype: u64, place: u64) -> Found
-    ensures { λ r. ⌜ r ≡ foundIn (now (flow .entry)) delega subtype place ⌝ }
+pub fn find(flow: &[u8], delega: u64, subtype: u64, nth: u64) -> Found
+    ensures { λ r. ⌜ r ≡ foundIn (now (flow .entry)) delega subtype nth ⌝ }
 {
     let judgement = judge::judge(flow);
     let verdict = judgement.verdict;
@@ -78,7 +79,7 @@ pub fn find(flow: &[u8], delega: u64, subtype: u64, place: u64) -> Found
     let Kind::Line(section) = layout::section_kind(subtype) else {
         return Found::Refused(21, 0, 0);
     };
-    let k = line_in(flow, delega, section, place);
+    let k = line_in(flow, delega, section, nth);
     if k == 0 {
         return Found::Refused(21, 0, 0);
     }
@@ -87,32 +88,22 @@ pub fn find(flow: &[u8], delega: u64, subtype: u64, place: u64) -> Found
 
 // The record that was found, within the caller's own buffer; an empty part with a refusal, and where the flow has no such record.
 pub fn part_of(flow: &[u8], found: Found) -> &[u8]
-    ensures { λ r. ⌜ (now r ≡ partOf (now (flow .entry)) found)
-        × (r .ptr .0 ≡ flow .entry .ptr .0)
-        × (r .ptr .1 ≡ flow .entry .ptr .1 + partStart (now (flow .entry)) found) ⌝ }
+    ensures { λ r. ⌜ LiesAt (flow .entry) (partOf (now (flow .entry)) found) (partStart (now (flow .entry)) found) r ⌝ }
 {
-    let Found::At(k) = found else {
-        return &flow[0..0];
-    };
-    if k == 0 {
-        return &flow[0..0];
+    match found {
+        Found::At(k) => judge::nth_record(flow, k),
+        Found::Refused(_, _, _) => &flow[0..0],
     }
-    if flow.len() / Flow::RECORD < k {
-        return &flow[0..0];
-    }
-    let start = (k - 1) * Flow::RECORD;
-    let end = start + Flow::RECORD;
-    &flow[start..end]
 }
 
 // The line's record and the answer, in one call.
-pub fn line<'a>(flow: &'a [u8], delega: u64, subtype: u64, place: u64) -> FoundLine<'a>
-    ensures { λ r. ⌜ (r .answer ≡ foundIn (now (flow .entry)) delega subtype place)
-        × (now (r .part) ≡ partOf (now (flow .entry)) (foundIn (now (flow .entry)) delega subtype place))
+pub fn line<'a>(flow: &'a [u8], delega: u64, subtype: u64, nth: u64) -> FoundLine<'a>
+    ensures { λ r. ⌜ (r .answer ≡ foundIn (now (flow .entry)) delega subtype nth)
+        × (now (r .part) ≡ partOf (now (flow .entry)) (foundIn (now (flow .entry)) delega subtype nth))
         × (r .part .ptr .0 ≡ flow .entry .ptr .0)
-        × (r .part .ptr .1 ≡ flow .entry .ptr .1 + partStart (now (flow .entry)) (foundIn (now (flow .entry)) delega subtype place)) ⌝ }
+        × (r .part .ptr .1 ≡ flow .entry .ptr .1 + partStart (now (flow .entry)) (foundIn (now (flow .entry)) delega subtype nth)) ⌝ }
 {
-    let answer = find(flow, delega, subtype, place);
+    let answer = find(flow, delega, subtype, nth);
     let part = part_of(flow, answer);
     FoundLine { part, answer }
 }

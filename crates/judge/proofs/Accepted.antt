@@ -13,7 +13,7 @@ use Rattle.layout.specs.declared.Kind.{Kind}
 use Rattle.layout.specs.declared.Kind.the-variants.{Head, Taxpayer, Domicile, Line, Balance, Payment, Receipt, Addressee, Tail, Unknown}
 use Rattle.layout.specs.Kinds.{same, typeOf, typeIn, kindIn}
 use Rattle.layout.specs.Fields.{delegaNumber, fieldsOf, valueOf}
-use Rattle.rules.specs.declared.Place.{Place}
+use Rattle.rules.specs.declared.Stage.{Stage}
 use Rattle.rules.specs.declared.Outcome.{Outcome}
 use Rattle.rules.specs.declared.Outcome.the-variants.{Pass, Fault}
 use Rattle.rules.specs.declared.State.{State}
@@ -21,20 +21,16 @@ use Rattle.rules.specs.State.{startState, afterTail}
 use Rattle.rules.specs.Order.{first, stands, typeStands, standing}
 use Rattle.rules.specs.Stored.{storedOf, wrong}
 use Rattle.rules.specs.Checks.{charFault, badFields, numberFault, ownFault, fault}
-use Rattle.rules.specs.Step.{nextPlace, next}
+use Rattle.rules.specs.Step.{nextStage, next}
 use Rattle.judge.specs.declared.Verdict.the-variants.{Accepted}
 use Rattle.judge.specs.declared.Judgement.{Judgement}
 use Rattle.judge.specs.Flow.{refusedWith, acceptedWith, closing, after, judgedFrom, recordsOf, headNameOf, judged}
+use Rattle.rules.proofs.FirstFault.{first-pass}
 use Rattle.judge.specs.Plain.{lastOf, stateAfter, NoFault, Whole, Sound}
-
--- of two outcomes none is a fault where the first fault is none
-first-pass : (a b : Outcome) → first a b ≡ Pass → (a ≡ Pass) × (b ≡ Pass)
-first-pass Pass b e = (refl, e)
-first-pass (Fault n p) b e = (e, cc)
 
 -- a record that passes may stand where it stands, and breaks no rule of its own and of its stored fields
 pub record Right (name : List ℕ) (st : State) (r : List ℕ) : Type 0 where
-  pub ordered : stands (st .place) (kindIn r) ≡ true
+  pub ordered : stands (st .stage) (kindIn r) ≡ true
   pub own : ownFault name st (kindIn r) r ≡ Pass
   pub stored : wrong (storedOf st (kindIn r)) r ≡ Pass
 
@@ -47,11 +43,11 @@ pub right-of : (name : List ℕ) (st : State) (r : List ℕ) → fault name st r
 unfolding fault standing
 right-of name st r e =
     let a = first-pass (charFault (firstBad r)) _ e in
-    let b = first-pass (standing (st .place) (typeIn r) (kindIn r)) _ (a .1) in
+    let b = first-pass (standing (st .stage) (typeIn r) (kindIn r)) _ (a .1) in
     let c = first-pass (badFields (fieldsOf (kindIn r)) r) _ (b .1) in
     let d = first-pass (numberFault (st .deleghe) (kindIn r) (valueOf r delegaNumber)) _ (c .1) in
     let f = first-pass (ownFault name st (kindIn r) r) _ (d .1) in
-    record { ordered = standing-pass (stands (st .place) (kindIn r)) (typeStands (st .place) (typeIn r)) _ (b .0); own = f .0; stored = f .1 }
+    record { ordered = standing-pass (stands (st .stage) (kindIn r)) (typeStands (st .stage) (typeIn r)) _ (b .0); own = f .0; stored = f .1 }
 
 -- records without a fault are judged by where they end
 no-fault-closing : (name : List ℕ) (st : State) (rs : List (List ℕ)) → NoFault name st rs → judgedFrom name st rs ≡ closing (stateAfter st rs)
@@ -70,16 +66,16 @@ accepted-passes name st (r ∷ rs) e =
     let a = after-accepts (fault name st r) (st .seen) (judgedFrom name (next st r) rs) e in
     (a .0, accepted-passes name (next st r) rs (a .1))
 
-closing-accepts : (st : State) → closing st .verdict ≡ Accepted → st .place .phase ≡ afterTail
+closing-accepts : (st : State) → closing st .verdict ≡ Accepted → st .stage .phase ≡ afterTail
 unfolding closing
-closing-accepts st e = go (eqb (st .place .phase) afterTail) refl e
+closing-accepts st e = go (eqb (st .stage .phase) afterTail) refl e
   where
-    go : (b : Bool) → eqb (st .place .phase) afterTail ≡ b → cond b (acceptedWith st) (refusedWith 5 (st .seen + 1) 0) .verdict ≡ Accepted → st .place .phase ≡ afterTail
+    go : (b : Bool) → eqb (st .stage .phase) afterTail ≡ b → cond b (acceptedWith st) (refusedWith 5 (st .seen + 1) 0) .verdict ≡ Accepted → st .stage .phase ≡ afterTail
     go true q f = eqb-true _ _ q
     go false q f = let z : _≡_ {A = ℕ} 0 1 = cc in omega arith
 
 -- the phase is that after EF exactly where EF came last
-tail-phase : (p : Place) (k : Kind) → stands p k ≡ true → (nextPlace p k .phase ≡ afterTail) ↔ (k ≡ Tail)
+tail-phase : (p : Stage) (k : Kind) → stands p k ≡ true → (nextStage p k .phase ≡ afterTail) ↔ (k ≡ Tail)
 unfolding stands
 tail-phase p Head h = (λ e. absurd (omega arith), λ e. cc)
 tail-phase p Taxpayer h = (λ e. absurd (omega arith), λ e. cc)
@@ -92,13 +88,13 @@ tail-phase p Addressee h = (λ e. absurd (omega arith), λ e. cc)
 tail-phase p Tail h = (λ e. refl, λ e. refl)
 tail-phase p Unknown h = (λ e. cc, λ e. cc)
 
-tail-after : (name : List ℕ) (st : State) (x : List ℕ) (rs : List (List ℕ)) → (st .place .phase ≡ afterTail) ↔ (kindIn x ≡ Tail) → NoFault name st rs →
-    (stateAfter st rs .place .phase ≡ afterTail) ↔ (kindIn (lastOf x rs) ≡ Tail)
+tail-after : (name : List ℕ) (st : State) (x : List ℕ) (rs : List (List ℕ)) → (st .stage .phase ≡ afterTail) ↔ (kindIn x ≡ Tail) → NoFault name st rs →
+    (stateAfter st rs .stage .phase ≡ afterTail) ↔ (kindIn (lastOf x rs) ≡ Tail)
 unfolding stateAfter lastOf next
 tail-after name st x [] e h = e
-tail-after name st x (r ∷ rs) e h = tail-after name (next st r) r rs (tail-phase (st .place) (kindIn r) (right-of name st r (h .0) .ordered)) (h .1)
+tail-after name st x (r ∷ rs) e h = tail-after name (next st r) r rs (tail-phase (st .stage) (kindIn r) (right-of name st r (h .0) .ordered)) (h .1)
 
-pub ends-in-tail : (s : List ℕ) → NoFault (headNameOf s) startState (recordsOf s) → (stateAfter startState (recordsOf s) .place .phase ≡ afterTail) ↔ (kindIn (lastOf [] (recordsOf s)) ≡ Tail)
+pub ends-in-tail : (s : List ℕ) → NoFault (headNameOf s) startState (recordsOf s) → (stateAfter startState (recordsOf s) .stage .phase ≡ afterTail) ↔ (kindIn (lastOf [] (recordsOf s)) ≡ Tail)
 unfolding startState kindIn typeOf same
 ends-in-tail s h = tail-after (headNameOf s) startState [] (recordsOf s) (λ e. absurd (omega arith), λ e. cc) h
 
@@ -128,7 +124,7 @@ accepted-means-no-fault s e =
 
 -- a sound flow ends after EF, and is accepted with the counts and sums of the state after its records
 module _ (s : List ℕ) (h : Sound s) where
-  pub sound-phase : stateAfter startState (recordsOf s) .place .phase ≡ afterTail
+  pub sound-phase : stateAfter startState (recordsOf s) .stage .phase ≡ afterTail
   sound-phase = ends-in-tail s (h .passes) .1 (h .ends)
 
   pub sound-judged : judged s ≡ acceptedWith (stateAfter startState (recordsOf s))

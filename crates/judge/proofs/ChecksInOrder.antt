@@ -19,32 +19,20 @@ use Rattle.layout.specs.Sections.{sectionAt}
 use Rattle.layout.specs.Kinds.{typeIn, kindIn}
 use Rattle.layout.specs.Fields.{amountAt, creationDate, delegaNumber, fieldsOf, supportName, bytesOf, valueOf}
 use Rattle.rules.specs.declared.Sums.{Sums}
-use Rattle.rules.specs.declared.Place.{Place}
+use Rattle.rules.specs.declared.Stage.{Stage}
 use Rattle.rules.specs.declared.Outcome.{Outcome}
 use Rattle.rules.specs.declared.Outcome.the-variants.{Pass, Fault}
 use Rattle.rules.specs.declared.State.{State}
-use Rattle.rules.specs.Order.{first, stands, full, typeStands, standing}
+use Rattle.rules.specs.Order.{first, firstOf, stands, full, typeStands, standing}
 use Rattle.rules.specs.Amounts.{lineRight, lineFault, dateRight}
 use Rattle.rules.specs.Names.{nameRight, sameBytes}
 use Rattle.rules.specs.Stored.{Stored, Value, Mark, sectionSums, storedBalance, storedOf, right, faultOf, wrong}
-use Rattle.rules.specs.Checks.{charFault, orBad, badFields, carried, numberFault, negativeFault, headName, tailName, dateFault, ownFault, fault}
-use Rattle.judge.specs.Plain.{orderCheck, mostCheck, fieldCheck, ownChecks, storedCheck, checksOf, firstOf, AtLeast, AllAtLeast}
-
-first-assoc : (a b c : Outcome) → first (first a b) c ≡ first a (first b c)
-first-assoc Pass b c = refl
-first-assoc (Fault n p) b c = refl
-
-first-none : (o : Outcome) → first o Pass ≡ o
-first-none Pass = refl
-first-none (Fault n p) = refl
-
-firstOf-append : (xs ys : List Outcome) → firstOf (xs ++ ys) ≡ first (firstOf xs) (firstOf ys)
-unfolding firstOf
-firstOf-append [] ys = refl
-firstOf-append (x ∷ xs) ys = ap (first x) (firstOf-append xs ys) ∙ sym (first-assoc x (firstOf xs) (firstOf ys))
+use Rattle.rules.specs.Checks.{charFault, orBad, badFields, carried, numberFault, negativeFault, headName, tailName, dateFault, ownChecks, ownFault, fault}
+use Rattle.rules.proofs.FirstFault.{first-assoc, firstOf-cons, firstOf-append}
+use Rattle.judge.specs.Plain.{orderCheck, mostCheck, fieldCheck, storedCheck, checksOf, AtLeast, AllAtLeast}
 
 -- each group of checks is its single checks, the first that fails
-standing-first : (p : Place) (t : RecordType) (k : Kind) → standing p t k ≡ first (orderCheck p t k) (mostCheck p k)
+standing-first : (p : Stage) (t : RecordType) (k : Kind) → standing p t k ≡ first (orderCheck p t k) (mostCheck p k)
 unfolding standing
 standing-first p t k = go (stands p k) (typeStands p t) (full p k)
   where
@@ -54,32 +42,18 @@ standing-first p t k = go (stands p k) (typeStands p t) (full p k)
     go false false c = refl
 
 fields-first : (fs : List Field) (r : List ℕ) → badFields fs r ≡ firstOf (map (fieldCheck r) fs)
-unfolding badFields firstOf
+unfolding badFields
 fields-first [] r = refl
-fields-first (f ∷ fs) r = go (numberOf (bytesOf r f)) (fields-first fs r)
+fields-first (f ∷ fs) r = go (numberOf (bytesOf r f)) (fields-first fs r) ∙ sym (firstOf-cons (fieldCheck r f) (map (fieldCheck r) fs))
   where
     go : (d : Digits) {o u : Outcome} → o ≡ u → orBad d f o ≡ first (orBad d f Pass) u
     go (Number n) e = e
     go (NonDigit i) e = refl
     go TooLong e = refl
 
-own-first : (name : List ℕ) (st : State) (k : Kind) (r : List ℕ) → ownFault name st k r ≡ firstOf (ownChecks name st k r)
-unfolding firstOf
-own-first name st Head r = ap (first (headName (bytesOf r supportName))) (sym (first-none _))
-own-first name st Taxpayer r = refl
-own-first name st Domicile r = refl
-own-first name st (Line s) r = sym (first-none _)
-own-first name st (Balance s) r = refl
-own-first name st Payment r = sym (first-none _)
-own-first name st Receipt r = refl
-own-first name st Addressee r = refl
-own-first name st Tail r = sym (first-none _)
-own-first name st Unknown r = refl
-
 stored-first : (xs : List Stored) (r : List ℕ) → wrong xs r ≡ firstOf (map (storedCheck r) xs)
-unfolding firstOf
 stored-first [] r = refl
-stored-first (x ∷ xs) r = go x (right x r) (stored-first xs r)
+stored-first (x ∷ xs) r = go x (right x r) (stored-first xs r) ∙ sym (firstOf-cons (storedCheck r x) (map (storedCheck r) xs))
   where
     go : (x : Stored) (b : Bool) {o u : Outcome} → o ≡ u → cond b o (faultOf x) ≡ first (cond b Pass (faultOf x)) u
     go x true e = e
@@ -88,8 +62,15 @@ stored-first (x ∷ xs) r = go x (right x r) (stored-first xs r)
 
 -- the fault of a record is the first of its checks that fails
 pub fault-is-first : (name : List ℕ) (st : State) (r : List ℕ) → fault name st r ≡ firstOf (checksOf name st r)
-unfolding fault checksOf firstOf
-fault-is-first name st r = simp (standing-first, first-assoc, fields-first, firstOf-append, own-first, stored-first)
+unfolding fault checksOf
+fault-is-first name st r =
+    let k = kindIn r in
+    let own = ownChecks name st k r in
+    let stored = map (storedCheck r) (storedOf st k) in
+    let fields = map (fieldCheck r) (fieldsOf k) in
+    let number = numberFault (st .deleghe) k (valueOf r delegaNumber) in
+    let e = firstOf-append fields (number ∷ (own ++ stored)) ∙ ap (first (firstOf fields)) (firstOf-cons number (own ++ stored) ∙ ap (first number) (firstOf-append own stored)) in
+    simp (standing-first, first-assoc, fields-first, stored-first) (sym (firstOf-append (charFault (firstBad r) ∷ orderCheck (st .stage) (typeIn r) k ∷ mostCheck (st .stage) k ∷ []) (fields ++ (number ∷ (own ++ stored))) ∙ simp (first-assoc, e)))
 
 -- a check whose only fault has number n
 data Only (n : ℕ) : Outcome → Type 0 where
@@ -197,11 +178,11 @@ checks-rising name st r = (
   (
     4,
     omega arith,
-    only-cond (stands (st .place) (kindIn r)) passed (only-cond (typeStands (st .place) (typeIn r)) failed failed),
+    only-cond (stands (st .stage) (kindIn r)) passed (only-cond (typeStands (st .stage) (typeIn r)) failed failed),
     (
       6,
       omega arith,
-      only-cond (full (st .place) (kindIn r)) failed passed,
+      only-cond (full (st .stage) (kindIn r)) failed passed,
       fields-rising (fieldsOf (kindIn r)) r _ (λ lo h. (8, omega arith, number-only (st .deleghe) (kindIn r) (valueOf r delegaNumber), rest-rising name st (kindIn r) r)) 6 (omega arith),
     ),
   ),
@@ -220,10 +201,10 @@ least m lo [] u h = tt
 least m lo (o ∷ os) u h = (at-least (omega arith) (u .2), least m (u .0) os (u .3) (omega arith))
 
 rising-first : (lo : ℕ) (os : List Outcome) {n p : ℕ} → Rising lo os → firstOf os ≡ Fault n p → AllAtLeast n os × (n ≡ 5 → ⊥)
-unfolding firstOf
 rising-first lo [] u e = let z : _≡_ {A = ℕ} 0 1 = cc in absurd (omega arith)
-rising-first lo (Pass ∷ os) u e = let a = rising-first (u .0) os (u .3) e in ((tt, a .0), a .1)
+rising-first lo (Pass ∷ os) u e = let a = rising-first (u .0) os (u .3) (sym (firstOf-cons Pass os) ∙ e) in ((tt, a .0), a .1)
 rising-first lo (Fault m q ∷ os) {n} u e =
+    let f = sym (firstOf-cons (Fault m q) os) ∙ e in
     let i : m ≡ n = cc in
     let j = only-number (u .2) in
     ((omega arith, least n (u .0) os (u .3) (omega arith)), λ k. u .1 .1 (omega arith))

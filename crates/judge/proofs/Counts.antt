@@ -24,6 +24,7 @@ use Rattle.judge.specs.declared.Verdict.the-variants.{Accepted}
 use Rattle.judge.specs.declared.Summary.{Summary}
 use Rattle.judge.specs.declared.Judgement.{Judgement}
 use Rattle.judge.specs.Flow.{summaryOf, chunks, recordsOf, headNameOf, judged}
+use Rattle.judge.proofs.Records.{length-chunks}
 use Rattle.judge.specs.Plain.{sumOver, opens, tensIn, stateAfter, NoFault}
 use Rattle.judge.proofs.Accepted.{accepted-means-no-fault, sound-judged}
 
@@ -48,11 +49,6 @@ pub seen-after : (st : State) (rs : List (List ℕ)) → stateAfter st rs .seen 
 unfolding stateAfter next
 seen-after st [] = omega arith
 seen-after st (r ∷ rs) = omega (arith, seen-after (next st r) rs)
-
-pub length-chunks : (n : ℕ) (s : List ℕ) → length (chunks n s) ≡ n
-unfolding chunks
-length-chunks zero s = refl
-length-chunks (suc n) s = ap suc (length-chunks n (drop 120 s))
 
 -- a record of type 10 opens a delega, and no other does
 section-opens-none : (d i : ℕ) (xs : List Section) (n : ℕ) → nextDeleghe d (sectionKindFrom i xs n) ≡ d

@@ -55,11 +55,11 @@ module _ (name : List ℕ) (n r p : ℕ) where
       go (Fault m u) q f g = inr (1, cc, record { before = []; here = x; behind = rs; split = refl; counted = refl; passes = tt; fails = cc })
 
 -- at the end only 5 is told, where the phase is not that after EF
-closing-refuses : (st : State) {n r p : ℕ} → closing st .verdict ≡ Refused n r p → (n ≡ 5) × (r ≡ st .seen + 1) × (p ≡ 0) × (st .place .phase ≡ afterTail → ⊥)
+closing-refuses : (st : State) {n r p : ℕ} → closing st .verdict ≡ Refused n r p → (n ≡ 5) × (r ≡ st .seen + 1) × (p ≡ 0) × (st .stage .phase ≡ afterTail → ⊥)
 unfolding closing
-closing-refuses st {n} {r} {p} e = go (eqb (st .place .phase) afterTail) refl e
+closing-refuses st {n} {r} {p} e = go (eqb (st .stage .phase) afterTail) refl e
   where
-    go : (b : Bool) → eqb (st .place .phase) afterTail ≡ b → cond b (acceptedWith st) (refusedWith 5 (st .seen + 1) 0) .verdict ≡ Refused n r p → (n ≡ 5) × (r ≡ st .seen + 1) × (p ≡ 0) × (st .place .phase ≡ afterTail → ⊥)
+    go : (b : Bool) → eqb (st .stage .phase) afterTail ≡ b → cond b (acceptedWith st) (refusedWith 5 (st .seen + 1) 0) .verdict ≡ Refused n r p → (n ≡ 5) × (r ≡ st .seen + 1) × (p ≡ 0) × (st .stage .phase ≡ afterTail → ⊥)
     go true q f = let z : _≡_ {A = ℕ} 0 1 = cc in absurd (omega arith)
     go false q f = (cc, cc, cc, eqb-false _ _ q)
 

@@ -1,3 +1,4 @@
+pub mod Records
 pub mod Turn
 pub mod Accepted
 pub mod Counts

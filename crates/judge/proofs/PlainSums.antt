@@ -11,7 +11,7 @@ use lib.ListN.{length, getD, replicate, length-set}
 use lib.Seq.{getD-set-same, getD-set-other}
 use Rattle.layout.specs.declared.Kind.{Kind}
 use Rattle.layout.specs.declared.Kind.the-variants.{Head, Taxpayer, Domicile, Line, Balance, Payment, Receipt, Addressee, Tail, Unknown}
-use Rattle.layout.specs.Kinds.{kindIn}
+use Rattle.layout.specs.Kinds.{ofLine, ofPayment, kindIn}
 use Rattle.layout.specs.Fields.{finalBalance, valueOf}
 use Rattle.rules.specs.declared.Sums.{Sums}
 use Rattle.rules.specs.declared.Money.{Money}
@@ -22,11 +22,11 @@ use Rattle.rules.specs.Order.{among, stands}
 use Rattle.rules.specs.Amounts.{finalOf}
 use Rattle.rules.specs.Stored.{storedOf, wrong}
 use Rattle.rules.specs.Checks.{ownFault, negativeFault}
-use Rattle.rules.specs.Step.{added, addedAt, lineSums, nextPlace, nextMoney, next}
+use Rattle.rules.specs.Step.{added, addedAt, lineSums, nextStage, nextMoney, next}
 use Rattle.judge.specs.declared.Verdict.the-variants.{Accepted}
 use Rattle.judge.specs.declared.Judgement.{Judgement}
 use Rattle.judge.specs.Flow.{recordsOf, headNameOf, judged}
-use Rattle.judge.specs.Plain.{sumOver, ofLine, ofPayment, Side, Debit, Credit, sideOf, columnOf, linesIn, sectionIn, finalsIn, stateAfter, NoFault}
+use Rattle.judge.specs.Plain.{sumOver, Side, Debit, Credit, sideOf, columnOf, linesIn, sectionIn, finalsIn, stateAfter, NoFault}
 use Rattle.judge.proofs.Accepted.{right-of, accepted-means-no-fault, sound-phase, sound-judged}
 use Rattle.judge.proofs.Counts.{accepted-adds}
 
@@ -61,7 +61,7 @@ module _ (x : Side) (i : ℕ) (r : List ℕ) where
           rw (e, length-set, getD-set-same l s _ noSums k, eq-eqb s s refl) (k, omega (arith, side-added x (getD l s noSums) (lineSums (Line s) r), side-line x s r))
       go (no e) = rw (length-set, getD-set-other l s i _ noSums e, ne-eqb s i (omega arith)) (h, omega arith)
 
-  section-adds : (k : Kind) (m : Money) → i < length (m .flow) → Grown (m .flow) (nextMoney m k (lineSums k r) .flow) (ofLine (λ s. cond (eqb s i) (valueOf r (columnOf x i)) 0) k)
+  section-adds : (k : Kind) (m : Money) → i < length (m .flow) → Grown (m .flow) (nextMoney m k (lineSums k r) .flow) (ofLine 0 (λ s. cond (eqb s i) (valueOf r (columnOf x i)) 0) k)
   section-adds Head m h = (h, omega arith)
   section-adds Taxpayer m h = (h, omega arith)
   section-adds Domicile m h = (h, omega arith)
@@ -82,7 +82,7 @@ cond-false : (b : Bool) (n p : ℕ) → cond b (Fault n p) Pass ≡ Pass → b �
 cond-false true n p e = cc
 cond-false false n p e = refl
 
-total-adds : (st : State) (k : Kind) (r : List ℕ) → wrong (storedOf st k) r ≡ Pass → nextMoney (st .money) k (lineSums k r) .total ≡ st .money .total + ofPayment (valueOf r finalBalance) k
+total-adds : (st : State) (k : Kind) (r : List ℕ) → wrong (storedOf st k) r ≡ Pass → nextMoney (st .money) k (lineSums k r) .total ≡ st .money .total + ofPayment 0 (valueOf r finalBalance) k
 total-adds st Head r e = omega arith
 total-adds st Taxpayer r e = omega arith
 total-adds st Domicile r e = omega arith
@@ -121,23 +121,23 @@ abbrev Balanced : Money → Money → ℕ → ℕ → Type 0
 Balanced m n d c = n .total + n .delega .all .debit + (m .delega .all .credit + c) ≡ m .total + m .delega .all .debit + (n .delega .all .credit + d)
 
 module _ (name : List ℕ) (st : State) (r : List ℕ) where
-  balance-step : (k : Kind) → stands (st .place) k ≡ true → ownFault name st k r ≡ Pass → Settled (st .place .phase) (st .money .delega .all) →
-      Settled (nextPlace (st .place) k .phase) (nextMoney (st .money) k (lineSums k r) .delega .all)
-      × Balanced (st .money) (nextMoney (st .money) k (lineSums k r)) (ofLine (λ s. valueOf r (columnOf Debit s)) k) (ofLine (λ s. valueOf r (columnOf Credit s)) k)
+  balance-step : (k : Kind) → stands (st .stage) k ≡ true → ownFault name st k r ≡ Pass → Settled (st .stage .phase) (st .money .delega .all) →
+      Settled (nextStage (st .stage) k .phase) (nextMoney (st .money) k (lineSums k r) .delega .all)
+      × Balanced (st .money) (nextMoney (st .money) k (lineSums k r)) (ofLine 0 (λ s. valueOf r (columnOf Debit s)) k) (ofLine 0 (λ s. valueOf r (columnOf Credit s)) k)
   unfolding stands negativeFault finalOf
-  balance-step Head o f z = let q = eqb-true (st .place .phase) atStart o in (λ x. z (omega arith), omega arith)
-  balance-step Taxpayer o f z = let w = z (among-each Off (st .place .phase) (afterHead ∷ afterPayment ∷ afterReceipt ∷ afterAddressee ∷ []) (omega arith) o) in (λ x. (refl, refl), omega arith)
-  balance-step Domicile o f z = let q = eqb-true (st .place .phase) afterTaxpayer o in (λ x. z (omega arith), omega arith)
+  balance-step Head o f z = let q = eqb-true (st .stage .phase) atStart o in (λ x. z (omega arith), omega arith)
+  balance-step Taxpayer o f z = let w = z (among-each Off (st .stage .phase) (afterHead ∷ afterPayment ∷ afterReceipt ∷ afterAddressee ∷ []) (omega arith) o) in (λ x. (refl, refl), omega arith)
+  balance-step Domicile o f z = let q = eqb-true (st .stage .phase) afterTaxpayer o in (λ x. z (omega arith), omega arith)
   balance-step (Line s) o f z = (λ x. absurd (x .0 refl), omega arith)
   balance-step (Balance s) o f z = (λ x. absurd (x .1 refl), omega arith)
   balance-step Payment o f z = (λ x. (refl, refl), let q = ltb-false (st .money .delega .all .debit) (st .money .delega .all .credit) (cond-false _ 14 2 f) in omega arith)
-  balance-step Receipt o f z = let q = eqb-true (st .place .phase) afterPayment o in (λ x. z (omega arith), omega arith)
-  balance-step Addressee o f z = let q = eqb-true (st .place .phase) afterReceipt o in (λ x. z (omega arith), omega arith)
-  balance-step Tail o f z = (λ x. z (among-each Off (st .place .phase) (afterPayment ∷ afterReceipt ∷ afterAddressee ∷ []) (omega arith) o), omega arith)
+  balance-step Receipt o f z = let q = eqb-true (st .stage .phase) afterPayment o in (λ x. z (omega arith), omega arith)
+  balance-step Addressee o f z = let q = eqb-true (st .stage .phase) afterReceipt o in (λ x. z (omega arith), omega arith)
+  balance-step Tail o f z = (λ x. z (among-each Off (st .stage .phase) (afterPayment ∷ afterReceipt ∷ afterAddressee ∷ []) (omega arith) o), omega arith)
   balance-step Unknown o f z = absurd (false≢true o)
 
-balance-after : (name : List ℕ) (st : State) (rs : List (List ℕ)) → NoFault name st rs → Settled (st .place .phase) (st .money .delega .all) →
-    Settled (stateAfter st rs .place .phase) (stateAfter st rs .money .delega .all) × Balanced (st .money) (stateAfter st rs .money) (linesIn Debit rs) (linesIn Credit rs)
+balance-after : (name : List ℕ) (st : State) (rs : List (List ℕ)) → NoFault name st rs → Settled (st .stage .phase) (st .money .delega .all) →
+    Settled (stateAfter st rs .stage .phase) (stateAfter st rs .money .delega .all) × Balanced (st .money) (stateAfter st rs .money) (linesIn Debit rs) (linesIn Credit rs)
 unfolding stateAfter sumOver next
 balance-after name st [] h z = (z, omega arith)
 balance-after name st (r ∷ rs) h z =

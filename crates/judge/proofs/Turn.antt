@@ -13,7 +13,7 @@ use native.Mathlib.Numerals.{add-one}
 use borrow.Author.Tests.{lt-ltb, le-ltb, eq-eqb, ne-eqb}
 use native.Mathlib.Decide.{decLt}
 use lib.ListN.{length, take, drop, getD, set, replicate, length-map, length-take, length-drop, drop-of-length-le, List·getD-append, List·getD-map}
-use lib.Seq.{drop-drop, drop-cons, set-at, take-suc, take-all, length-take-le, getD-append-add}
+use lib.Seq.{drop-cons, set-at, take-suc, take-all, length-take-le, getD-append-add}
 use Rattle.text.specs.declared.Digits.{Digits}
 use Rattle.text.specs.declared.Digits.the-variants.{Number, NonDigit, TooLong}
 use Rattle.text.specs.Characters.{firstBad}
@@ -38,6 +38,7 @@ use Rattle.rules.proofs.Reading.{pairOf, values-read, step-read}
 use Rattle.rules.proofs.Growth.{start-below, state-on}
 use Rattle.judge.specs.declared.Judgement.{Judgement}
 use Rattle.judge.specs.Flow.{refusedWith, closing, after, judgedFrom, chunks, restOf, recordsOf, headNameOf, judged, Ready}
+use Rattle.judge.proofs.Records.{chunks-on}
 
 -- the first failed check of a record, by how far the checks have come
 module _ (name : List ℕ) (st : State) (r : List ℕ) where
@@ -46,11 +47,11 @@ module _ (name : List ℕ) (st : State) (r : List ℕ) where
   fault-chars a = rw a
 
   module _ (k : Kind) (ek : k ≡ kindIn r) (a : charFault (firstBad r) ≡ Pass) where
-    pub fault-standing : {e p : ℕ} → standing (st .place) (typeIn r) k ≡ Fault e p → fault name st r ≡ Fault e p
+    pub fault-standing : {e p : ℕ} → standing (st .stage) (typeIn r) k ≡ Fault e p → fault name st r ≡ Fault e p
     unfolding fault
     fault-standing b = rw (a, ← ek, b)
 
-    module _ (b : standing (st .place) (typeIn r) k ≡ Pass) where
+    module _ (b : standing (st .stage) (typeIn r) k ≡ Pass) where
       pub fault-fields : {e p : ℕ} → badFields (fieldsOf k) r ≡ Fault e p → fault name st r ≡ Fault e p
       unfolding fault
       fault-fields d = rw (a, ← ek, b, d)
@@ -130,10 +131,6 @@ pub record Going (flow : List ℕ) (j : Judgement) (st : State) : Type 0 where
 pub going-end : (flow : List ℕ) (j : Judgement) (st : State) → Going flow j st → st .seen ≡ length flow / 120 → j ≡ closing st
 unfolding judgedFrom chunks
 going-end flow j st g e = g .rest ∙ ap (λ (n : ℕ). judgedFrom (headNameOf flow) st (chunks n (drop (st .seen * 120) flow))) (let h : length flow / 120 - st .seen ≡ 0 = omega arith in h)
-
-chunks-on : (m n k : ℕ) (s : List ℕ) → m ≡ suc n → chunks m (drop (k * 120) s) ≡ take 120 (drop (k * 120) s) ∷ chunks n (drop ((k + 1) * 120) s)
-unfolding chunks
-chunks-on m n k s e = rw (e, drop-drop 120 (k * 120) s) (ap (λ (j : ℕ). take 120 (drop (k * 120) s) ∷ chunks n (drop j s)) (let h : k * 120 + 120 ≡ (k + 1) * 120 = omega arith in h))
 
 module _ (flow : List ℕ) (j : Judgement) (st : State) (g : Going flow j st) (more : st .seen < length flow / 120) (r : List ℕ) (er : r ≡ take 120 (drop (st .seen * 120) flow)) where
   opened : j ≡ after (fault (headNameOf flow) st r) (st .seen) (judgedFrom (headNameOf flow) (next st r) (restOf flow (st .seen + 1)))

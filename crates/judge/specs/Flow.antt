@@ -17,16 +17,6 @@ use Rattle.judge.specs.declared.Verdict.the-variants.{Accepted, Refused}
 use Rattle.judge.specs.declared.Summary.{Summary}
 use Rattle.judge.specs.declared.Judgement.{Judgement}
 
--- document 01's number, record and position of an answer; an acceptance has none
-pub record Refusal : Type 0 where
-  pub number : ℕ
-  pub place : ℕ
-  pub position : ℕ
-
-abbrev pub refusalOf : Verdict → Refusal
-refusalOf Accepted = record { number = 0; place = 0; position = 0 }
-refusalOf (Refused n r p) = record { number = n; place = r; position = p }
-
 -- a refusal, with a summary of zeros
 abbrev pub noSummary : Summary
 noSummary = record { deleghe = 0; records = 0; total = 0; sums = zeroSections }
@@ -43,7 +33,7 @@ acceptedWith st = record { verdict = Accepted; summary = summaryOf st }
 
 -- "Refusal 5 comes after all records have passed": "number of records plus 1, 0"
 unfoldable pub closing : State → Judgement
-closing st = cond (eqb (st .place .phase) afterTail) (acceptedWith st) (refusedWith 5 (st .seen + 1) 0)
+closing st = cond (eqb (st .stage .phase) afterTail) (acceptedWith st) (refusedWith 5 (st .seen + 1) 0)
 
 -- "the first blocking fault ends the judgement", at the record after those seen
 abbrev pub after : Outcome → ℕ → Judgement → Judgement

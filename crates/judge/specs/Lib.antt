@@ -1,2 +1,4 @@
+pub mod Refusal
 pub mod Flow
 pub mod Plain
+pub mod Part

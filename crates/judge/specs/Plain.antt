@@ -13,18 +13,18 @@ use Rattle.layout.specs.declared.RecordType.the-variants.{F4, T10, T20, T40, T5
 use Rattle.layout.specs.declared.Kind.{Kind}
 use Rattle.layout.specs.declared.Kind.the-variants.{Head, Taxpayer, Domicile, Line, Balance, Payment, Receipt, Addressee, Tail, Unknown}
 use Rattle.layout.specs.Sections.{sectionAt}
-use Rattle.layout.specs.Kinds.{typeIn, kindIn}
+use Rattle.layout.specs.Kinds.{ofLine, ofPayment, typeIn, kindIn}
 use Rattle.layout.specs.Fields.{amountAt, finalBalance, delegaNumber, creationDate, supportName, fieldsOf, bytesOf, valueOf}
 use Rattle.rules.specs.declared.Sums.{Sums}
-use Rattle.rules.specs.declared.Place.{Place}
+use Rattle.rules.specs.declared.Stage.{Stage}
 use Rattle.rules.specs.declared.State.{State}
 use Rattle.rules.specs.declared.Outcome.{Outcome}
 use Rattle.rules.specs.declared.Outcome.the-variants.{Pass, Fault}
 use Rattle.rules.specs.State.{startState}
-use Rattle.rules.specs.Order.{first, stands, typeStands, full}
+use Rattle.rules.specs.Order.{stands, typeStands, full}
 use Rattle.rules.specs.Amounts.{lineFault}
 use Rattle.rules.specs.Stored.{Stored, storedOf, right, faultOf}
-use Rattle.rules.specs.Checks.{charFault, orBad, numberFault, negativeFault, headName, tailName, dateFault, fault}
+use Rattle.rules.specs.Checks.{charFault, orBad, numberFault, ownChecks, fault}
 use Rattle.rules.specs.Step.{next}
 use Rattle.judge.specs.Flow.{recordsOf, headNameOf}
 
@@ -47,32 +47,6 @@ opens NoType = 0
 abbrev pub tensIn : List (List ℕ) → ℕ
 tensIn rs = sumOver (λ r. opens (typeIn r)) rs
 
--- the number that a line of section s gives, and 0 for a record that is no line
-abbrev pub ofLine : (ℕ → ℕ) → Kind → ℕ
-ofLine f Head = 0
-ofLine f Taxpayer = 0
-ofLine f Domicile = 0
-ofLine f (Line s) = f s
-ofLine f (Balance s) = 0
-ofLine f Payment = 0
-ofLine f Receipt = 0
-ofLine f Addressee = 0
-ofLine f Tail = 0
-ofLine f Unknown = 0
-
--- a number for a record 50-01, and 0 for any other
-abbrev pub ofPayment : ℕ → Kind → ℕ
-ofPayment n Head = 0
-ofPayment n Taxpayer = 0
-ofPayment n Domicile = 0
-ofPayment n (Line s) = 0
-ofPayment n (Balance s) = 0
-ofPayment n Payment = n
-ofPayment n Receipt = 0
-ofPayment n Addressee = 0
-ofPayment n Tail = 0
-ofPayment n Unknown = 0
-
 -- the two sides of a line
 pub data Side : Type 0 where
   Debit : Side
@@ -90,15 +64,15 @@ columnOf Credit s = amountAt (sectionAt s .credit)
 
 -- one side of all lines, added up
 abbrev pub linesIn : Side → List (List ℕ) → ℕ
-linesIn x rs = sumOver (λ r. ofLine (λ s. valueOf r (columnOf x s)) (kindIn r)) rs
+linesIn x rs = sumOver (λ r. ofLine 0 (λ s. valueOf r (columnOf x s)) (kindIn r)) rs
 
 -- one side of the lines of section i, added up
 abbrev pub sectionIn : Side → ℕ → List (List ℕ) → ℕ
-sectionIn x i rs = sumOver (λ r. ofLine (λ s. cond (eqb s i) (valueOf r (columnOf x i)) 0) (kindIn r)) rs
+sectionIn x i rs = sumOver (λ r. ofLine 0 (λ s. cond (eqb s i) (valueOf r (columnOf x i)) 0) (kindIn r)) rs
 
 -- the final balances of the records 50-01, added up
 abbrev pub finalsIn : List (List ℕ) → ℕ
-finalsIn rs = sumOver (λ r. ofPayment (valueOf r finalBalance) (kindIn r)) rs
+finalsIn rs = sumOver (λ r. ofPayment 0 (valueOf r finalBalance) (kindIn r)) rs
 
 -- the last of the records, or x where there are none
 unfoldable pub lastOf : List ℕ → List (List ℕ) → List ℕ
@@ -137,37 +111,24 @@ pub record FirstFault (name : List ℕ) (st : State) (rs : List (List ℕ)) (n k
   pub passes : NoFault name st before
   pub fails : fault name (stateAfter st before) here ≡ Fault n p
 
--- no record has a fault, the last is not EF, and the place told is that behind the last
+-- no record has a fault, the last is not EF, and the record told is that behind the last
 pub record Unfinished (s : List ℕ) (r p : ℕ) : Type 0 where
   pub passes : NoFault (headNameOf s) startState (recordsOf s)
   pub ends : kindIn (lastOf [] (recordsOf s)) ≡ Tail → ⊥
   pub counted : r ≡ length (recordsOf s) + 1
   pub nowhere : p ≡ 0
 
--- 4: a record of a type and a kind may stand at a place
-abbrev pub orderCheck : Place → RecordType → Kind → Outcome
+-- 4: a record of a type and a kind may stand at a stage
+abbrev pub orderCheck : Stage → RecordType → Kind → Outcome
 orderCheck p t k = cond (stands p k) Pass (cond (typeStands p t) (Fault 4 11) (Fault 4 2))
 
 -- 6: the section has room for one more line
-abbrev pub mostCheck : Place → Kind → Outcome
+abbrev pub mostCheck : Stage → Kind → Outcome
 mostCheck p k = cond (full p k) (Fault 6 11) Pass
 
 -- 7: a numeric field has digits only
 abbrev pub fieldCheck : List ℕ → Field → Outcome
 fieldCheck r f = orBad (numberOf (bytesOf r f)) f Pass
-
--- 9 of a line, 14 of a 50-01, 16 and 17 of the head, 16 of the tail
-abbrev pub ownChecks : List ℕ → State → Kind → List ℕ → List Outcome
-ownChecks name st Head r = headName (bytesOf r supportName) ∷ dateFault (valueOf r creationDate) ∷ []
-ownChecks name st Taxpayer r = []
-ownChecks name st Domicile r = []
-ownChecks name st (Line s) r = lineFault s (valueOf r (amountAt (sectionAt s .debit))) (valueOf r (amountAt (sectionAt s .credit))) ∷ []
-ownChecks name st (Balance s) r = []
-ownChecks name st Payment r = negativeFault (st .money .delega .all) ∷ []
-ownChecks name st Receipt r = []
-ownChecks name st Addressee r = []
-ownChecks name st Tail r = tailName name (bytesOf r supportName) ∷ []
-ownChecks name st Unknown r = []
 
 -- 10 to 13, 15, 18 to 20: a stored field is right
 abbrev pub storedCheck : List ℕ → Stored → Outcome
@@ -176,14 +137,9 @@ storedCheck r x = cond (right x r) Pass (faultOf x)
 -- every check of one record by itself, in the order of the numbers
 unfoldable pub checksOf : List ℕ → State → List ℕ → List Outcome
 checksOf name st r =
-    (charFault (firstBad r) ∷ orderCheck (st .place) (typeIn r) (kindIn r) ∷ mostCheck (st .place) (kindIn r) ∷ [])
+    (charFault (firstBad r) ∷ orderCheck (st .stage) (typeIn r) (kindIn r) ∷ mostCheck (st .stage) (kindIn r) ∷ [])
     ++ (map (fieldCheck r) (fieldsOf (kindIn r))
     ++ (numberFault (st .deleghe) (kindIn r) (valueOf r delegaNumber) ∷ (ownChecks name st (kindIn r) r ++ map (storedCheck r) (storedOf st (kindIn r)))))
-
--- the first outcome that is a fault
-unfoldable pub firstOf : List Outcome → Outcome
-firstOf [] = Pass
-firstOf (o ∷ os) = first o (firstOf os)
 
 -- an outcome has no number below n
 abbrev pub AtLeast : ℕ → Outcome → Type 0

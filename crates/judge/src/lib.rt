@@ -9,6 +9,7 @@ ghost use Rattle.text.specs.Numbers.{numberOf};
 ghost use Rattle.layout.specs.Kinds.{typeIn, kindIn};
 ghost use Rattle.layout.specs.Fields.{bytesOf, Within};
 ghost use Rattle.rules.specs.Checks.{charFault};
+ghost use Rattle.judge.specs.Part.{recordAt, recordStart, LiesAt};
 ghost use Rattle.judge.specs.Flow.{refusedWith, closing, headNameOf, restOf, judgedFrom, judged, Ready};
 use layout::Field;
 use layout::Flow;
@@ -16,7 +17,7 @@ use layout::Kind;
 use layout::RecordType;
 pub use lines::line_sums;
 use rules::Outcome;
-use rules::Place;
+use rules::Stage;
 use rules::State;
 use rules::Sums;
 use text::Characters;
@@ -43,11 +44,11 @@ pub struct Judgement {
 }
 
 // A refusal beside a summary of zeros.
-pub fn refused(number: u64, place: usize, position: usize) -> Judgement
-    ensures { λ r. ⌜ r ≡ refusedWith number place position ⌝ }
+pub fn refused(number: u64, at: usize, position: usize) -> Judgement
+    ensures { λ r. ⌜ r ≡ refusedWith number at position ⌝ }
 {
     Judgement {
-        verdict: Verdict::Refused(number, place, position),
+        verdict: Verdict::Refused(number, at, position),
         summary: Summary {
             deleghe: 0,
             records: 0,
@@ -65,10 +66,10 @@ fn closing_of(st: State) -> Judgement
     requires { ⌜ st .seen < 1000 ⌝ }
     ensures { λ r. ⌜ r ≡ closing st ⌝ }
 {
-    let place = st.place;
+    let stage = st.stage;
     let money = st.money;
     let sums = money.flow;
-    if place.phase == Place::TAIL {
+    if stage.phase == Stage::TAIL {
         return Judgement {
             verdict: Verdict::Accepted,
             summary: Summary {
@@ -88,6 +89,21 @@ pub fn record_at(flow: &[u8], at: usize) -> &[u8]
     ensures { λ r. ⌜ now r ≡ take 120 (drop at (now (flow .entry))) ⌝ }
 {
     &flow[at..at + 120]
+}
+
+// The k-th record, counted from 1, within the caller's own buffer; an empty part where the flow has none.
+pub fn nth_record(flow: &[u8], k: usize) -> &[u8]
+    ensures { λ r. ⌜ LiesAt (flow .entry) (recordAt (now (flow .entry)) k) (recordStart (now (flow .entry)) k) r ⌝ }
+{
+    if k == 0 {
+        return &flow[0..0];
+    }
+    if flow.len() / Flow::RECORD < k {
+        return &flow[0..0];
+    }
+    let end = k * Flow::RECORD;
+    let start = end - Flow::RECORD;
+    &flow[start..end]
 }
 
 // Check 3.
@@ -144,8 +160,8 @@ fn judge_from(flow: &[u8], start: State) -> Judgement
             break 'records refused(number, k + 1, position);
         }
         let kind = kind_in(rec);
-        let place = st.place;
-        if let Outcome::Fault(number, position) = rules::standing_of(place, type_in(rec), kind) {
+        let stage = st.stage;
+        if let Outcome::Fault(number, position) = rules::standing_of(stage, type_in(rec), kind) {
             break 'records refused(number, k + 1, position);
         }
         let fields = layout::fields_of(kind);

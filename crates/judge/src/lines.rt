@@ -45,20 +45,11 @@ pub fn line_sums(rec: &[u8], k: Kind) -> Sums
     requires { ⌜ length (now rec) ≡ 120 ⌝ }
     ensures { λ r. ⌜ r ≡ lineSums k (now (rec .entry)) ⌝ }
 {
-    let none = Sums {
-        debit: 0,
-        credit: 0,
+    let Kind::Line(s) = k else {
+        return Sums {
+            debit: 0,
+            credit: 0,
+        };
     };
-    match k {
-        Kind::Head => none,
-        Kind::Taxpayer => none,
-        Kind::Domicile => none,
-        Kind::Line(s) => line_amounts(rec, s),
-        Kind::Balance(_) => none,
-        Kind::Payment => none,
-        Kind::Receipt => none,
-        Kind::Addressee => none,
-        Kind::Tail => none,
-        Kind::Unknown => none,
-    }
+    line_amounts(rec, s)
 }

@@ -72,3 +72,42 @@ subtypeIn r = numberOf (take 2 (drop (at 11) r))
 -- the kind of a record
 unfoldable pub kindIn : List ℕ → Kind
 kindIn r = kindOf (typeIn r) (subtypeIn r)
+
+-- one value for a line of section s, and another for a record of any other kind
+abbrev pub ofLine : {A : Type 0} → A → (ℕ → A) → Kind → A
+ofLine other f Head = other
+ofLine other f Taxpayer = other
+ofLine other f Domicile = other
+ofLine other f (Line s) = f s
+ofLine other f (Balance s) = other
+ofLine other f Payment = other
+ofLine other f Receipt = other
+ofLine other f Addressee = other
+ofLine other f Tail = other
+ofLine other f Unknown = other
+
+-- one value for a record 10, and another for a record of any other kind
+abbrev pub ofTaxpayer : {A : Type 0} → A → A → Kind → A
+ofTaxpayer other x Head = other
+ofTaxpayer other x Taxpayer = x
+ofTaxpayer other x Domicile = other
+ofTaxpayer other x (Line s) = other
+ofTaxpayer other x (Balance s) = other
+ofTaxpayer other x Payment = other
+ofTaxpayer other x Receipt = other
+ofTaxpayer other x Addressee = other
+ofTaxpayer other x Tail = other
+ofTaxpayer other x Unknown = other
+
+-- one value for a record 50-01, and another for a record of any other kind
+abbrev pub ofPayment : {A : Type 0} → A → A → Kind → A
+ofPayment other x Head = other
+ofPayment other x Taxpayer = other
+ofPayment other x Domicile = other
+ofPayment other x (Line s) = other
+ofPayment other x (Balance s) = other
+ofPayment other x Payment = x
+ofPayment other x Receipt = other
+ofPayment other x Addressee = other
+ofPayment other x Tail = other
+ofPayment other x Unknown = other

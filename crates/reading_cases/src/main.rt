@@ -23,7 +23,7 @@ fn print_step(flow: &[u8], shown: usize) {
         Answer::NoMore => {
             io::write_all(STDOUT_FILENO, b"NO MORE\n");
         }
-        Answer::Refused(number, place, position) => desk::print_refusal(number, place, position),
+        Answer::Refused(number, at, position) => desk::print_refusal(number, at, position),
     }
     let next = step.next;
     print_place(next.shown);

@@ -61,9 +61,9 @@ five-pass a b c d e h =
 
 -- The checks that rebalancing leaves alone, one by one.
 kept-parts : (name : List ℕ) (st : State) (r : List ℕ) → keptFault name st r ≡ Pass →
-    (charFault (firstBad r) ≡ Pass) × (standing (st .place) (typeIn r) (kindIn r) ≡ Pass) × (badFields (keptFields (kindIn r)) r ≡ Pass) × (numberFault (st .deleghe) (kindIn r) (valueOf r delegaNumber) ≡ Pass) × (ownFault name st (kindIn r) r ≡ Pass)
+    (charFault (firstBad r) ≡ Pass) × (standing (st .stage) (typeIn r) (kindIn r) ≡ Pass) × (badFields (keptFields (kindIn r)) r ≡ Pass) × (numberFault (st .deleghe) (kindIn r) (valueOf r delegaNumber) ≡ Pass) × (ownFault name st (kindIn r) r ≡ Pass)
 unfolding keptFault
-kept-parts name st r e = five-pass _ (standing (st .place) (typeIn r) (kindIn r)) _ _ _ e
+kept-parts name st r e = five-pass _ (standing (st .stage) (typeIn r) (kindIn r)) _ _ _ e
 
 -- A record of the same kind gets the same stored fields.
 emit-as : (st : State) (r s : List ℕ) → kindIn s ≡ kindIn r → emit st s ≡ putAll (storedOf st (kindIn r)) s
@@ -81,11 +81,11 @@ unfolding emit putAll
 emit-plain st r e = rw e
 
 -- A record that passes the checks that rebalancing leaves alone may stand where it does.
-pub kept-stands : (name : List ℕ) (st : State) (r : List ℕ) → keptFault name st r ≡ Pass → stands (st .place) (kindIn r) ≡ true
+pub kept-stands : (name : List ℕ) (st : State) (r : List ℕ) → keptFault name st r ≡ Pass → stands (st .stage) (kindIn r) ≡ true
 unfolding keptFault standing
-kept-stands name st r e = go (stands (st .place) (kindIn r)) (typeStands (st .place) (typeIn r)) (kept-parts name st r e .1)
+kept-stands name st r e = go (stands (st .stage) (kindIn r)) (typeStands (st .stage) (typeIn r)) (kept-parts name st r e .1)
   where
-    go : (t u : Bool) → cond t (cond (full (st .place) (kindIn r)) (Fault 6 11) Pass) (cond u (Fault 4 11) (Fault 4 2)) ≡ Pass → t ≡ true
+    go : (t u : Bool) → cond t (cond (full (st .stage) (kindIn r)) (Fault 6 11) Pass) (cond u (Fault 4 11) (Fault 4 2)) ≡ Pass → t ≡ true
     go true u e = refl
     go false true e = cc
     go false false e = cc
@@ -169,7 +169,7 @@ module _ (st : State) (r : List ℕ) (l : length r ≡ 120) where
   fault-parts : (name : List ℕ) → fault name st r ≡ Pass → (keptFault name st r ≡ Pass) × (badFields (valueFields (storedOf st (kindIn r))) r ≡ Pass) × (wrong (storedOf st (kindIn r)) r ≡ Pass)
   unfolding fault keptFault
   fault-parts name e =
-      let a = five-pass (charFault (firstBad r)) (standing (st .place) (typeIn r) (kindIn r)) (badFields (fieldsOf (kindIn r)) r) (numberFault (st .deleghe) (kindIn r) (valueOf r delegaNumber)) _ e in
+      let a = five-pass (charFault (firstBad r)) (standing (st .stage) (typeIn r) (kindIn r)) (badFields (fieldsOf (kindIn r)) r) (numberFault (st .deleghe) (kindIn r) (valueOf r delegaNumber)) _ e in
       let n = first-pass (badFields (keptFields (kindIn r)) r) (badFields (valueFields xs) r) (fields-same (storing st r) r .0 (a .2)) in
       let w = first-pass (ownFault name st (kindIn r) r) (wrong xs r) (a .4) in
       (rw (a .0, a .1, n .0, a .3) (w .0), n .1, w .1)

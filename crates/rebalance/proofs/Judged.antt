@@ -9,7 +9,7 @@ use lib.ListN.{length}
 use Rattle.layout.specs.declared.Kind.{Kind}
 use Rattle.layout.specs.declared.Kind.the-variants.{Head, Taxpayer, Domicile, Line, Balance, Payment, Receipt, Addressee, Tail, Unknown}
 use Rattle.layout.specs.Kinds.{kindIn}
-use Rattle.rules.specs.declared.Place.{Place}
+use Rattle.rules.specs.declared.Stage.{Stage}
 use Rattle.rules.specs.declared.State.{State}
 use Rattle.rules.specs.State.{atStart, startState}
 use Rattle.rules.specs.Order.{among, stands}
@@ -24,7 +24,7 @@ use Rattle.rebalance.proofs.Rebalanced.{rebalanced-accepted, accepted-o
 use Rattle.rebalance.proofs.Flat.{length-flat, records-flat, flat-chunks, sized-chunks, name-in-front}
 
 -- At the start only the head may stand.
-head-stands : (p : Place) (k : Kind) → p .phase ≡ atStart → stands p k ≡ true → k ≡ Head
+head-stands : (p : Stage) (k : Kind) → p .phase ≡ atStart → stands p k ≡ true → k ≡ Head
 unfolding stands among
 head-stands p Head z e = refl
 head-stands p Taxpayer z e = absurd (false≢true (rw z at e))
@@ -45,10 +45,10 @@ name-kept st r rs l e =
     rw (emit-plain st r p, name-in-front r (flat (rebalanced (next st r) rs)) l, name-in-front r (flat rs) l)
 
 -- Rebalancing leaves the name of a flow that it mends.
-pub name-mended : (name : List ℕ) (st : State) (rs : List (List ℕ)) → st .place .phase ≡ atStart → Mendable name st rs → headNameOf (flat (rebalanced st rs)) ≡ headNameOf (flat rs)
+pub name-mended : (name : List ℕ) (st : State) (rs : List (List ℕ)) → st .stage .phase ≡ atStart → Mendable name st rs → headNameOf (flat (rebalanced st rs)) ≡ headNameOf (flat rs)
 unfolding rebalanced flat
 name-mended name st [] z m = refl
-name-mended name st (r ∷ rs) z m = name-kept st r rs (m .0) (head-stands (st .place) (kindIn r) z (kept-stands name st r (m .1)))
+name-mended name st (r ∷ rs) z m = name-kept st r rs (m .0) (head-stands (st .stage) (kindIn r) z (kept-stands name st r (m .1)))
 
 -- A flow of some whole records, of no more than 65,520 bytes, is judged by its records.
 pub judged-whole : (s : List ℕ) → length s ≤ 65520 → 0 < length s → length s % 120 ≡ 0 → judged s ≡ judgedFrom (headNameOf s) startState (recordsOf s)

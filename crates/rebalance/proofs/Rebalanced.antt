@@ -39,11 +39,11 @@ accepted-own name st (r ∷ rs) s e =
     ap₂ _∷_ (emit-own st r (s .0) name (a .0)) (accepted-own name (next st r) rs (s .1) (a .1))
 
 -- Records after which a flow is accepted end with the tail.
-closing-tail : (st : State) → closing st .verdict ≡ Accepted → st .place .phase ≡ afterTail
+closing-tail : (st : State) → closing st .verdict ≡ Accepted → st .stage .phase ≡ afterTail
 unfolding closing
-closing-tail st e = go (eqb (st .place .phase) afterTail) refl e
+closing-tail st e = go (eqb (st .stage .phase) afterTail) refl e
   where
-    go : (t : Bool) → eqb (st .place .phase) afterTail ≡ t → cond t (acceptedWith st) (refusedWith 5 (st .seen + 1) 0) .verdict ≡ Accepted → st .place .phase ≡ afterTail
+    go : (t : Bool) → eqb (st .stage .phase) afterTail ≡ t → cond t (acceptedWith st) (refusedWith 5 (st .seen + 1) 0) .verdict ≡ Accepted → st .stage .phase ≡ afterTail
     go true p f = eqb-true _ _ p
     go false p f = cc
 

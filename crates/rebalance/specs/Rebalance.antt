@@ -88,7 +88,7 @@ keptFields Unknown = []
 unfoldable pub keptFault : List ℕ → State → List ℕ → Outcome
 keptFault name st r =
     first (charFault (firstBad r))
-    (first (standing (st .place) (typeIn r) (kindIn r))
+    (first (standing (st .stage) (typeIn r) (kindIn r))
     (first (badFields (keptFields (kindIn r)) r) (first (numberFault (st .deleghe) (kindIn r) (valueOf r delegaNumber)) (ownFault name st (kindIn r) r))))
 
 -- Every record has 120 bytes.
@@ -103,5 +103,5 @@ flat (r ∷ rs) = r ++ flat rs
 
 -- Rebalancing mends records of 120 bytes that pass every check it leaves alone, where what it writes fits, up to and with the tail.
 abbrev pub Mendable : List ℕ → State → List (List ℕ) → Type 0
-Mendable name st [] = st .place .phase ≡ afterTail
+Mendable name st [] = st .stage .phase ≡ afterTail
 Mendable name st (r ∷ rs) = (length r ≡ 120) × (keptFault name st r ≡ Pass) × (fitsAll (storedOf st (kindIn r)) ≡ true) × Mendable name (next st r) rs

@@ -6,24 +6,14 @@ use mathlib.Core.List.{List, [], _∷_}
 use lib.Dec.{ltb}
 use lib.ListN.{length}
 use Rattle.layout.specs.declared.Kind.{Kind}
-use Rattle.layout.specs.declared.Kind.the-variants.{Head, Taxpayer, Domicile, Line, Balance, Payment, Receipt, Addressee, Tail, Unknown}
-use Rattle.layout.specs.Kinds.{kindIn}
+use Rattle.layout.specs.Kinds.{ofPayment, kindIn}
 use Rattle.rules.specs.declared.State.{State}
 use Rattle.rules.specs.State.{StateBelow}
 use Rattle.rules.specs.Step.{next}
 
 -- "negative is not": some delega has debits below its credits
 abbrev pub negativeAt : State → Kind → Bool
-negativeAt st Head = false
-negativeAt st Taxpayer = false
-negativeAt st Domicile = false
-negativeAt st (Line s) = false
-negativeAt st (Balance s) = false
-negativeAt st Payment = ltb (st .money .delega .all .debit) (st .money .delega .all .credit)
-negativeAt st Receipt = false
-negativeAt st Addressee = false
-negativeAt st Tail = false
-negativeAt st Unknown = false
+negativeAt st k = ofPayment false (ltb (st .money .delega .all .debit) (st .money .delega .all .credit)) k
 
 unfoldable pub anyNegative : State → List (List ℕ) → Bool
 anyNegative st [] = false

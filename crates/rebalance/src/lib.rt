@@ -45,18 +45,10 @@ fn is_negative(st: State, k: Kind) -> bool
     let money = st.money;
     let delega = money.delega;
     let all = delega.all;
-    match k {
-        Kind::Head => false,
-        Kind::Taxpayer => false,
-        Kind::Domicile => false,
-        Kind::Line(_) => false,
-        Kind::Balance(_) => false,
-        Kind::Payment => all.debit < all.credit,
-        Kind::Receipt => false,
-        Kind::Addressee => false,
-        Kind::Tail => false,
-        Kind::Unknown => false,
+    if let Kind::Payment = k {
+        return all.debit < all.credit;
     }
+    false
 }
 
 // Whether the totals, where the section has them, and the balance have at most fifteen digits.

@@ -13,8 +13,8 @@ use Rattle.text.proofs.Numerals.{length-digits}
 use Rattle.text.proofs.Puts.{length-put, put-here, put-after}
 use Rattle.judge.specs.declared.Judgement.{Judgement}
 use Rattle.judge.specs.declared.Verdict.the-variants.{Accepted, Refused}
-use Rattle.report.specs.Printed.{places, decimal, acceptedText, refusedText, judgementText, printedBytes, printedSize, Printed, Appended}
-use Rattle.report.proofs.Places.{places-twenty, places-enough}
+use Rattle.report.specs.Printed.{widthOf, decimal, acceptedText, refusedText, judgementText, printedBytes, printedSize, Printed, Appended}
+use Rattle.report.proofs.Widths.{width-twenty, width-enough}
 
 -- The parts of which a put is made.
 put-is : (s : ℕ) (bs r : List ℕ) → putAt s bs r ≡ take s r ++ (bs ++ drop (s + length bs) r)
@@ -60,11 +60,11 @@ append-number {s} {w} {n} {r} b h f m l =
     append-put (b ∙ number-written s w n r (number-fits s w n (length r) f h) .1) (omega arith) (omega arith) (omega arith)
 
 -- A number of 64 bits that was put in as many digits as it has is a step of printing.
-pub append-decimal : {s w n : ℕ} {r r' : List ℕ} → r' ≡ numberBytes s w n r → w ≡ places n → n < 2 ^ 64 → s + 20 ≤ length r → Appended s (decimal n) 20 r r' (s + w)
+pub append-decimal : {s w n : ℕ} {r r' : List ℕ} → r' ≡ numberBytes s w n r → w ≡ widthOf n → n < 2 ^ 64 → s + 20 ≤ length r → Appended s (decimal n) 20 r r' (s + w)
 unfolding decimal
 append-decimal {s} {w} {n} {r} b e h f =
-    let l : w ≤ 20 = omega (arith, places-twenty n h) in
-    rw (← e) (append-number b (rw e (places-enough n)) (omega arith) 20 l)
+    let l : w ≤ 20 = omega (arith, width-twenty n h) in
+    rw (← e) (append-number b (rw e (width-enough n)) (omega arith) 20 l)
 
 module _ {s : ℕ} {xs : List ℕ} {m : ℕ} {r r' : List ℕ} {e : ℕ} (a : Appended s xs m r r' e) where
   -- Two steps of printing, one after the other, are one step of both texts.

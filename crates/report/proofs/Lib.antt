@@ -1,4 +1,4 @@
-pub mod Places
+pub mod Widths
 pub mod Appending
 pub mod SectionLines
 pub mod Samples

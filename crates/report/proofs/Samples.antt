@@ -7,7 +7,7 @@ use Rattle.rules.specs.State.{noSums}
 use Rattle.judge.specs.declared.Judgement.{Judgement}
 use Rattle.judge.specs.declared.Verdict.the-variants.{Accepted}
 use Rattle.judge.specs.Flow.{refusedWith}
-use Rattle.report.specs.Printed.{placesWithin, places, decimal, fieldText, pairText, sectionText, sectionsFrom, sectionsText, acceptedText, refusedText, judgementText}
+use Rattle.report.specs.Printed.{widthWithin, widthOf, decimal, fieldText, pairText, sectionText, sectionsFrom, sectionsText, acceptedText, refusedText, judgementText}
 
 -- "For one delega with Regioni lines (10000, 0) and (0, 2500), all else sound"
 abbrev pub oneDelega : Judgement
@@ -27,15 +27,15 @@ pub whole-text :
     ∷ 48 ∷ 55 ∷ 32 ∷ 48 ∷ 32 ∷ 48 ∷ 10
     ∷ 49 ∷ 55 ∷ 32 ∷ 48 ∷ 32 ∷ 48 ∷ 10
     ∷ []
-unfolding judgementText acceptedText sectionsText sectionsFrom sectionText pairText fieldText decimal places placesWithin digitsOf sectionAt
+unfolding judgementText acceptedText sectionsText sectionsFrom sectionText pairText fieldText decimal widthOf widthWithin digitsOf sectionAt
 whole-text = refl
 
 -- "empty input prints `REFUSED 2 0 0`"
 pub refused-empty : judgementText (refusedWith 2 0 0) ≡ 82 ∷ 69 ∷ 70 ∷ 85 ∷ 83 ∷ 69 ∷ 68 ∷ 32 ∷ 50 ∷ 32 ∷ 48 ∷ 32 ∷ 48 ∷ 10 ∷ []
-unfolding judgementText refusedText pairText fieldText decimal places placesWithin digitsOf
+unfolding judgementText refusedText pairText fieldText decimal widthOf widthWithin digitsOf
 refused-empty = refl
 
 -- "decimal numbers without leading zeros": the number 0 is the digit 0
 pub decimal-zero : decimal 0 ≡ 48 ∷ []
-unfolding decimal places placesWithin digitsOf
+unfolding decimal widthOf widthWithin digitsOf
 decimal-zero = refl

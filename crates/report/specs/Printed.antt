@@ -23,17 +23,17 @@ abbrev pub lineEnd : ℕ
 lineEnd = 10
 
 -- "decimal numbers": how many digits a number of at most k has, one below ten and else one more than a tenth of it
-unfoldable pub placesWithin : ℕ → ℕ → ℕ
-placesWithin zero n = 1
-placesWithin (suc k) n = cond (ltb n 10) 1 (placesWithin k (n / 10) + 1)
+unfoldable pub widthWithin : ℕ → ℕ → ℕ
+widthWithin zero n = 1
+widthWithin (suc k) n = cond (ltb n 10) 1 (widthWithin k (n / 10) + 1)
 
 -- "without leading zeros": the number of digits that a number has
-unfoldable pub places : ℕ → ℕ
-places n = placesWithin n n
+unfoldable pub widthOf : ℕ → ℕ
+widthOf n = widthWithin n n
 
 -- "prints decimal numbers without leading zeros"
 unfoldable pub decimal : ℕ → List ℕ
-decimal n = digitsOf (places n) n
+decimal n = digitsOf (widthOf n) n
 
 -- "One space stands between fields": a number and the byte after it
 unfoldable pub fieldText : ℕ → ℕ → List ℕ

@@ -6,7 +6,7 @@ ghost use Prim.Native.Nat.{_+_, _≤_, _<_};
 ghost use lib.ListN.{length};
 ghost use Rattle.text.specs.Numbers.{digitsOf};
 ghost use Rattle.layout.specs.Sections.{sectionAt};
-ghost use Rattle.report.specs.Printed.{places, decimal, fieldText, pairText, sectionText, sectionsText, acceptedText, refusedText, delegaText, lineText, judgementText, Printed, Appended};
+ghost use Rattle.report.specs.Printed.{widthOf, decimal, fieldText, pairText, sectionText, sectionsText, acceptedText, refusedText, delegaText, lineText, judgementText, Printed, Appended};
 use judge::Judgement;
 use judge::Summary;
 use judge::Verdict;
@@ -16,8 +16,8 @@ use rules::Sums;
 pub const ROOM: usize = 512;
 
 // How many digits a number has.
-fn places_of(n: u64) -> usize
-    ensures { λ r. ⌜ r ≡ places n ⌝ }
+fn width_of(n: u64) -> usize
+    ensures { λ r. ⌜ r ≡ widthOf n ⌝ }
 {
     let mut left = n;
     let mut width: usize = 1;
@@ -28,7 +28,7 @@ fn places_of(n: u64) -> usize
     width
 }
 
-// A word at a place; the answer is the place after it.
+// A word at an index; the answer is the index after it.
 fn put_word(room: &mut [u8], at: usize, word: &[u8]) -> usize
     requires { ⌜ at + length (now word) ≤ length (now room) ⌝ }
     ensures { λ r. ⌜ Appended at (now (word .entry)) (length (now (word .entry))) (now (room .entry)) (now (room .exit)) r ⌝ }
@@ -38,18 +38,18 @@ fn put_word(room: &mut [u8], at: usize, word: &[u8]) -> usize
     end
 }
 
-// A number in decimal digits at a place.
+// A number in decimal digits at an index.
 fn put_decimal(room: &mut [u8], at: usize, n: u64) -> usize
     requires { ⌜ at + 20 ≤ length (now room) ⌝ }
     ensures { λ r. ⌜ Appended at (decimal n) 20 (now (room .entry)) (now (room .exit)) r ⌝ }
 {
-    let width = places_of(n);
+    let width = width_of(n);
     let end = at + width;
     text::put_number(&mut *room, at, width, n);
     end
 }
 
-// One byte at a place.
+// One byte at an index.
 fn put_byte(room: &mut [u8], at: usize, byte: u8) -> usize
     requires { ⌜ at < length (now room) ⌝ }
     ensures { λ r. ⌜ Appended at (byte ∷ []) 1 (now (room .entry)) (now (room .exit)) r ⌝ }
@@ -124,13 +124,13 @@ fn put_accepted(room: &mut [u8], summary: Summary) -> usize
 }
 
 // A refusal: one line.
-fn put_refused(room: &mut [u8], number: u64, place: usize, position: usize) -> usize
+fn put_refused(room: &mut [u8], number: u64, at: usize, position: usize) -> usize
     requires { ⌜ 512 ≤ length (now room) ⌝ }
-    ensures { λ r. ⌜ Appended 0 (refusedText number place position) 71 (now (room .entry)) (now (room .exit)) r ⌝ }
+    ensures { λ r. ⌜ Appended 0 (refusedText number at position) 71 (now (room .entry)) (now (room .exit)) r ⌝ }
 {
     let word = put_word(&mut *room, 0, b"REFUSED ");
     let end = put_field(&mut *room, word, number, b' ');
-    put_pair(&mut *room, end, place as u64, position as u64)
+    put_pair(&mut *room, end, at as u64, position as u64)
 }
 
 // What the judging program prints.
@@ -146,23 +146,18 @@ pub fn judgement_text(j: Judgement, room: &mut [u8]) -> usize
             let summary = j.summary;
             put_accepted(&mut *room, summary)
         }
-        Verdict::Refused(number, place, position) => put_refused(
-            &mut *room,
-            number,
-            place,
-            position,
-        ),
+        Verdict::Refused(number, at, position) => put_refused(&mut *room, number, at, position),
     }
 }
 
 // What every program prints of a refusal.
-pub fn refusal_text(number: u64, place: usize, position: usize, room: &mut [u8]) -> usize
-    ensures { λ r. ⌜ Printed (refusedText number place position) (now (room .entry)) (now (room .exit)) r ⌝ }
+pub fn refusal_text(number: u64, at: usize, position: usize, room: &mut [u8]) -> usize
+    ensures { λ r. ⌜ Printed (refusedText number at position) (now (room .entry)) (now (room .exit)) r ⌝ }
 {
     if room.len() < ROOM {
         return 0;
     }
-    put_refused(&mut *room, number, place, position)
+    put_refused(&mut *room, number, at, position)
 }
 
 // What is printed of one delega: its number and final balance, and a line for each section.
@@ -178,12 +173,12 @@ pub fn delega_text(number: u64, balance: u64, sums: [Sums; 5], room: &mut [u8]) 
 }
 
 // What is printed of a found line: the number of its record.
-pub fn line_text(place: usize, room: &mut [u8]) -> usize
-    ensures { λ r. ⌜ Printed (lineText place) (now (room .entry)) (now (room .exit)) r ⌝ }
+pub fn line_text(at: usize, room: &mut [u8]) -> usize
+    ensures { λ r. ⌜ Printed (lineText at) (now (room .entry)) (now (room .exit)) r ⌝ }
 {
     if room.len() < ROOM {
         return 0;
     }
     let word = put_word(&mut *room, 0, b"LINE ");
-    put_field(&mut *room, word, place as u64, b'\n')
+    put_field(&mut *room, word, at as u64, b'\n')
 }

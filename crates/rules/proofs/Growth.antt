@@ -9,12 +9,12 @@ use lib.Seq.{getD-set-same, getD-set-other, set-out}
 use Rattle.layout.specs.declared.Kind.{Kind}
 use Rattle.layout.specs.declared.Kind.the-variants.{Head, Taxpayer, Domicile, Line, Balance, Payment, Receipt, Addressee, Tail, Unknown}
 use Rattle.rules.specs.declared.Sums.{Sums}
-use Rattle.rules.specs.declared.Place.{Place}
+use Rattle.rules.specs.declared.Stage.{Stage}
 use Rattle.rules.specs.declared.Money.{Money}
 use Rattle.rules.specs.declared.State.{State}
 use Rattle.rules.specs.State.{noSums, zeroSections, zeroDelega, startState, Small, SumsBelow, MoneyBelow, StateBelow}
 use Rattle.rules.specs.Amounts.{finalOf}
-use Rattle.rules.specs.Step.{added, addedAt, nextPlace, nextDeleghe, nextMoney, nextOf}
+use Rattle.rules.specs.Step.{added, addedAt, nextStage, nextDeleghe, nextMoney, nextOf}
 
 -- the sums of five sections grow by a line's amounts
 sums-on : (b : ℕ) (l : List Sums) (s : ℕ) (x : Sums) → SumsBelow b l → Small x → SumsBelow (b + 1_000_000_000_000_000) (addedAt l s x)
@@ -59,7 +59,7 @@ money-on b m Addressee x g h = money-room b _ m (omega arith) g
 money-on b m Tail x g h = money-room b _ m (omega arith) g
 money-on b m Unknown x g h = money-room b _ m (omega arith) g
 
-lines-on : (n : ℕ) (p : Place) (k : Kind) → p .lines ≤ n → nextPlace p k .lines ≤ n + 1
+lines-on : (n : ℕ) (p : Stage) (k : Kind) → p .lines ≤ n → nextStage p k .lines ≤ n + 1
 lines-on n p Head h = omega arith
 lines-on n p Taxpayer h = omega arith
 lines-on n p Domicile h = omega arith
@@ -92,6 +92,6 @@ pub state-on : (st : State) (k : Kind) (x : Sums) → StateBelow st → Small x 
 state-on st k x g h =
     record {
       money-below = rw (let e : (st .seen + 1) * 1_000_000_000_000_000 ≡ st .seen * 1_000_000_000_000_000 + 1_000_000_000_000_000 = omega arith in e) (money-on (st .seen * 1_000_000_000_000_000) (st .money) k x (g .money-below) h);
-      lines-below = lines-on (st .seen) (st .place) k (g .lines-below);
+      lines-below = lines-on (st .seen) (st .stage) k (g .lines-below);
       deleghe-below = deleghe-on (st .seen) (st .deleghe) k (g .deleghe-below);
     }

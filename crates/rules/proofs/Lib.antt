@@ -5,3 +5,4 @@ pub mod Arrays
 pub mod Reading
 pub mod Growth
 pub mod Examples
+pub mod FirstFault

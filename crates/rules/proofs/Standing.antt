@@ -3,7 +3,7 @@ use mathlib.Core.Path.{_≡_, refl, sym, ap, _∙_}
 use mathlib.Core.Bool.{Bool, true, false, cond}
 use Rattle.layout.specs.declared.RecordType.the-variants.{T40, T50}
 use Rattle.layout.specs.declared.Kind.the-variants.{Line, Balance, Payment, Receipt, Addressee}
-use Rattle.rules.specs.declared.Place.{Place}
+use Rattle.rules.specs.declared.Stage.{Stage}
 use Rattle.rules.specs.Order.{stands, sectionStands, typeStands}
 
 pub or-false : (a : Bool) → cond a true false ≡ a
@@ -14,10 +14,10 @@ or-assoc : (a b d : Bool) → cond a true (cond b true d) ≡ cond (cond a true 
 or-assoc true b d = refl
 or-assoc false b d = refl
 
-pub forty : (p : Place) → typeStands p T40 ≡ cond (sectionStands p 0) true (cond (sectionStands p 1) true (cond (sectionStands p 2) true (cond (sectionStands p 3) true (sectionStands p 4))))
+pub forty : (p : Stage) → typeStands p T40 ≡ cond (sectionStands p 0) true (cond (sectionStands p 1) true (cond (sectionStands p 2) true (cond (sectionStands p 3) true (sectionStands p 4))))
 unfolding typeStands sectionStands
 forty p = simp (or-assoc, or-false)
 
-pub fifty : (p : Place) → typeStands p T50 ≡ cond (stands p Payment) true (cond (stands p Receipt) true (stands p Addressee))
+pub fifty : (p : Stage) → typeStands p T50 ≡ cond (stands p Payment) true (cond (stands p Receipt) true (stands p Addressee))
 unfolding typeStands
 fifty p = rw or-false

@@ -19,7 +19,7 @@ use Rattle.rules.specs.declared.Sums.{Sums}
 use Rattle.rules.specs.declared.State.{State}
 use Rattle.rules.specs.declared.Outcome.{Outcome}
 use Rattle.rules.specs.declared.Outcome.the-variants.{Pass, Fault}
-use Rattle.rules.specs.Order.{first, standing}
+use Rattle.rules.specs.Order.{first, firstOf, standing}
 use Rattle.rules.specs.Amounts.{lineFault, dateRight}
 use Rattle.rules.specs.Names.{nameRight, sameBytes}
 use Rattle.rules.specs.Stored.{storedOf, wrong}
@@ -71,23 +71,27 @@ unfoldable pub dateFault : ℕ → Outcome
 dateFault v = cond (dateRight v) Pass (Fault 17 14)
 
 -- 9 of a line, 14 of a 50-01, 16 and 17 of the head, 16 of the tail: what is judged beside the stored fields. No kind of record has a stored field of a smaller number
+abbrev pub ownChecks : List ℕ → State → Kind → List ℕ → List Outcome
+ownChecks name st Head r = headName (bytesOf r supportName) ∷ dateFault (valueOf r creationDate) ∷ []
+ownChecks name st Taxpayer r = []
+ownChecks name st Domicile r = []
+ownChecks name st (Line s) r = lineFault s (valueOf r (amountAt (sectionAt s .debit))) (valueOf r (amountAt (sectionAt s .credit))) ∷ []
+ownChecks name st (Balance s) r = []
+ownChecks name st Payment r = negativeFault (st .money .delega .all) ∷ []
+ownChecks name st Receipt r = []
+ownChecks name st Addressee r = []
+ownChecks name st Tail r = tailName name (bytesOf r supportName) ∷ []
+ownChecks name st Unknown r = []
+
+-- the first of these that fails
 abbrev pub ownFault : List ℕ → State → Kind → List ℕ → Outcome
-ownFault name st Head r = first (headName (bytesOf r supportName)) (dateFault (valueOf r creationDate))
-ownFault name st Taxpayer r = Pass
-ownFault name st Domicile r = Pass
-ownFault name st (Line s) r = lineFault s (valueOf r (amountAt (sectionAt s .debit))) (valueOf r (amountAt (sectionAt s .credit)))
-ownFault name st (Balance s) r = Pass
-ownFault name st Payment r = negativeFault (st .money .delega .all)
-ownFault name st Receipt r = Pass
-ownFault name st Addressee r = Pass
-ownFault name st Tail r = tailName name (bytesOf r supportName)
-ownFault name st Unknown r = Pass
+ownFault name st k r = firstOf (ownChecks name st k r)
 
 -- "within a record the checks in the order of their numbers": the first failed check of a record r of a flow whose head has this name
 unfoldable pub fault : List ℕ → State → List ℕ → Outcome
 fault name st r =
     first (charFault (firstBad r))
-    (first (standing (st .place) (typeIn r) (kindIn r))
+    (first (standing (st .stage) (typeIn r) (kindIn r))
     (first (badFields (fieldsOf (kindIn r)) r)
     (first (numberFault (st .deleghe) (kindIn r) (valueOf r delegaNumber))
     (first (ownFault name st (kindIn r) r) (wrong (storedOf st (kindIn r)) r)))))

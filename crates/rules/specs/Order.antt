@@ -8,7 +8,8 @@ use Rattle.layout.specs.declared.Kind.the-variants.{Head, Taxpayer, Domicile, L
 use Rattle.layout.specs.declared.RecordType.{RecordType}
 use Rattle.layout.specs.declared.RecordType.the-variants.{F4, T10, T20, T40, T50, EF, NoType}
 use Rattle.layout.specs.Sections.{sectionAt}
-use Rattle.rules.specs.declared.Place.{Place}
+use Rattle.layout.specs.Kinds.{ofLine}
+use Rattle.rules.specs.declared.Stage.{Stage}
 use Rattle.rules.specs.declared.Outcome.{Outcome}
 use Rattle.rules.specs.declared.Outcome.the-variants.{Pass, Fault}
 use Rattle.rules.specs.State.{atStart, afterHead, afterTaxpayer, afterDomicile, afterLine, afterBalance, afterPayment, afterReceipt, afterAddressee}
@@ -18,6 +19,12 @@ abbrev pub first : Outcome → Outcome → Outcome
 first Pass o = o
 first (Fault n p) o = Fault n p
 
+-- the first of several outcomes that is a fault
+abbrev pub firstOf : List Outcome → Outcome
+firstOf [] = Pass
+firstOf (o ∷ []) = o
+firstOf (o ∷ (p ∷ os)) = first o (firstOf (p ∷ os))
+
 -- x is one of a list
 unfoldable pub among : ℕ → List ℕ → Bool
 among x [] = false
@@ -25,7 +32,7 @@ among x (y ∷ ys) = cond (eqb x y) true (among x ys)
 
 -- "A delega is one record 10, one record 20, one or more sections, one record 50-01, then at most one 50-02 and, after a 50-02 only, at most one 50-03";
 -- "Sections stand in the order of the table, each at most once. A delega has section 17 alone or any of the other four"
-unfoldable pub stands : Place → Kind → Bool
+unfoldable pub stands : Stage → Kind → Bool
 stands p Head = eqb (p .phase) atStart
 stands p Taxpayer = among (p .phase) (afterHead ∷ afterPayment ∷ afterReceipt ∷ afterAddressee ∷ [])
 stands p Domicile = eqb (p .phase) afterTaxpayer
@@ -50,32 +57,23 @@ kindsOf T50 = Payment ∷ Receipt ∷ Addressee ∷ []
 kindsOf EF = Tail ∷ []
 kindsOf NoType = []
 
-abbrev pub anyStands : Place → List Kind → Bool
+abbrev pub anyStands : Stage → List Kind → Bool
 anyStands p [] = false
 anyStands p (k ∷ ks) = cond (stands p k) true (anyStands p ks)
 
 -- a record that may stand here has this type
-unfoldable pub typeStands : Place → RecordType → Bool
+unfoldable pub typeStands : Stage → RecordType → Bool
 typeStands p t = anyStands p (kindsOf t)
 
 -- a line or the balance of section s may stand here
-unfoldable pub sectionStands : Place → ℕ → Bool
+unfoldable pub sectionStands : Stage → ℕ → Bool
 sectionStands p s = cond (stands p (Line s)) true (stands p (Balance s))
 
 -- 6, "line beyond the section's most"
-unfoldable pub full : Place → Kind → Bool
-full p Head = false
-full p Taxpayer = false
-full p Domicile = false
-full p (Line s) = leb (sectionAt s .«most_lines») (p .lines)
-full p (Balance s) = false
-full p Payment = false
-full p Receipt = false
-full p Addressee = false
-full p Tail = false
-full p Unknown = false
+unfoldable pub full : Stage → Kind → Bool
+full p k = ofLine false (λ s. leb (sectionAt s .«most_lines») (p .lines)) k
 
 -- 4, "record may not stand here": position "2 if no record that may stand here has its type, else 11"; then 6 at 11
-unfoldable pub standing : Place → RecordType → Kind → Outcome
+unfoldable pub standing : Stage → RecordType → Kind → Outcome
 standing p t k =
     cond (stands p k) (cond (full p k) (Fault 6 11) Pass) (cond (typeStands p t) (Fault 4 11) (Fault 4 2))

@@ -5,7 +5,7 @@ use mathlib.Core.List.{List}
 use lib.ListN.{length, getD, replicate}
 use Rattle.rules.specs.declared.Sums.{Sums}
 use Rattle.rules.specs.declared.DelegaSums.{DelegaSums}
-use Rattle.rules.specs.declared.Place.{Place}
+use Rattle.rules.specs.declared.Stage.{Stage}
 use Rattle.rules.specs.declared.Money.{Money}
 use Rattle.rules.specs.declared.State.{State}
 
@@ -51,16 +51,16 @@ afterAddressee = 8
 abbrev pub afterTail : ℕ
 afterTail = 9
 
--- the place after a record of a phase, of section s, with n lines of that section so far
-abbrev pub placedAt : ℕ → ℕ → ℕ → Place
-placedAt p s n = record { phase = p; section = s; lines = n }
+-- the stage after a record of a phase, of section s, with n lines of that section so far
+abbrev pub stageAt : ℕ → ℕ → ℕ → Stage
+stageAt p s n = record { phase = p; section = s; lines = n }
 
 -- before the first record
 abbrev pub startMoney : Money
 startMoney = record { delega = zeroDelega; flow = zeroSections; total = 0 }
 
 unfoldable pub startState : State
-startState = record { place = placedAt atStart 0 0; deleghe = 0; money = startMoney; seen = 0 }
+startState = record { stage = stageAt atStart 0 0; deleghe = 0; money = startMoney; seen = 0 }
 
 -- a line's amounts have at most fifteen digits
 pub record Small (x : Sums) : Type 0 where
@@ -87,5 +87,5 @@ pub record MoneyBelow (b : ℕ) (m : Money) : Type 0 where
 -- every record adds at most one line, one delega, and one amount of fifteen digits
 pub record StateBelow (st : State) : Type 0 where
   pub money-below : MoneyBelow (st .seen * 1_000_000_000_000_000) (st .money)
-  pub lines-below : st .place .lines ≤ st .seen
+  pub lines-below : st .stage .lines ≤ st .seen
   pub deleghe-below : st .deleghe ≤ st .seen

@@ -5,41 +5,32 @@ use lib.ListN.{getD, set}
 use Rattle.layout.specs.declared.Kind.{Kind}
 use Rattle.layout.specs.declared.Kind.the-variants.{Head, Taxpayer, Domicile, Line, Balance, Payment, Receipt, Addressee, Tail, Unknown}
 use Rattle.layout.specs.Sections.{sectionAt}
-use Rattle.layout.specs.Kinds.{kindIn}
+use Rattle.layout.specs.Kinds.{ofLine, ofTaxpayer, kindIn}
 use Rattle.layout.specs.Fields.{amountAt, valueOf}
 use Rattle.rules.specs.declared.Sums.{Sums}
 use Rattle.rules.specs.declared.DelegaSums.{DelegaSums}
-use Rattle.rules.specs.declared.Place.{Place}
+use Rattle.rules.specs.declared.Stage.{Stage}
 use Rattle.rules.specs.declared.Money.{Money}
 use Rattle.rules.specs.declared.State.{State}
-use Rattle.rules.specs.State.{noSums, zeroDelega, placedAt, afterHead, afterTaxpayer, afterDomicile, afterLine, afterBalance, afterPayment, afterReceipt, afterAddressee, afterTail}
+use Rattle.rules.specs.State.{noSums, zeroDelega, stageAt, afterHead, afterTaxpayer, afterDomicile, afterLine, afterBalance, afterPayment, afterReceipt, afterAddressee, afterTail}
 use Rattle.rules.specs.Amounts.{finalOf}
 
--- the place after a record
-abbrev pub nextPlace : Place → Kind → Place
-nextPlace p Head = placedAt afterHead 0 0
-nextPlace p Taxpayer = placedAt afterTaxpayer 0 0
-nextPlace p Domicile = placedAt afterDomicile 0 0
-nextPlace p (Line s) = placedAt afterLine s (p .lines + 1)
-nextPlace p (Balance s) = placedAt afterBalance s 0
-nextPlace p Payment = placedAt afterPayment 0 0
-nextPlace p Receipt = placedAt afterReceipt 0 0
-nextPlace p Addressee = placedAt afterAddressee 0 0
-nextPlace p Tail = placedAt afterTail 0 0
-nextPlace p Unknown = p
+-- the stage after a record
+abbrev pub nextStage : Stage → Kind → Stage
+nextStage p Head = stageAt afterHead 0 0
+nextStage p Taxpayer = stageAt afterTaxpayer 0 0
+nextStage p Domicile = stageAt afterDomicile 0 0
+nextStage p (Line s) = stageAt afterLine s (p .lines + 1)
+nextStage p (Balance s) = stageAt afterBalance s 0
+nextStage p Payment = stageAt afterPayment 0 0
+nextStage p Receipt = stageAt afterReceipt 0 0
+nextStage p Addressee = stageAt afterAddressee 0 0
+nextStage p Tail = stageAt afterTail 0 0
+nextStage p Unknown = p
 
 -- "The first delega is 1, each next one is one more"
 abbrev pub nextDeleghe : ℕ → Kind → ℕ
-nextDeleghe d Head = d
-nextDeleghe d Taxpayer = d + 1
-nextDeleghe d Domicile = d
-nextDeleghe d (Line s) = d
-nextDeleghe d (Balance s) = d
-nextDeleghe d Payment = d
-nextDeleghe d Receipt = d
-nextDeleghe d Addressee = d
-nextDeleghe d Tail = d
-nextDeleghe d Unknown = d
+nextDeleghe d k = ofTaxpayer d (d + 1) k
 
 -- a line's amounts added to sums, and to those of section s in a list
 abbrev pub added : Sums → Sums → Sums
@@ -68,21 +59,12 @@ nextMoney m Unknown x = m
 
 -- the amounts of a line; a record that is none has none
 abbrev pub lineSums : Kind → List ℕ → Sums
-lineSums Head r = noSums
-lineSums Taxpayer r = noSums
-lineSums Domicile r = noSums
-lineSums (Line s) r = record { debit = valueOf r (amountAt (sectionAt s .debit)); credit = valueOf r (amountAt (sectionAt s .credit)) }
-lineSums (Balance s) r = noSums
-lineSums Payment r = noSums
-lineSums Receipt r = noSums
-lineSums Addressee r = noSums
-lineSums Tail r = noSums
-lineSums Unknown r = noSums
+lineSums k r = ofLine noSums (λ s. record { debit = valueOf r (amountAt (sectionAt s .debit)); credit = valueOf r (amountAt (sectionAt s .credit)) }) k
 
 -- the step over a record of a kind with these amounts
 abbrev pub nextOf : State → Kind → Sums → State
 nextOf st k x =
-    record { place = nextPlace (st .place) k; deleghe = nextDeleghe (st .deleghe) k; money = nextMoney (st .money) k x; seen = st .seen + 1 }
+    record { stage = nextStage (st .stage) k; deleghe = nextDeleghe (st .deleghe) k; money = nextMoney (st .money) k x; seen = st .seen + 1 }
 
 -- the state after a record
 unfoldable pub next : State → List ℕ → State

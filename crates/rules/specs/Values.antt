@@ -22,7 +22,7 @@ use Rattle.rules.specs.Checks.{numberFault, negativeFault, headName, tai
 unfoldable pub valuesIn : List Field → List ℕ → List ℕ
 valuesIn fl r = map (valueOf r) fl ++ replicate (4 - length fl) 0
 
--- 12 and 13, of the character at the sign's place and the balance
+-- 12 and 13, of the character at the sign's column and the balance
 unfoldable pub balanceEnd : ℕ → Sums → ℕ → ℕ → Outcome
 balanceEnd s t sign bal =
     cond (eqb sign (signOf (t .debit) (t .credit)))

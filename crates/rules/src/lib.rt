@@ -19,7 +19,7 @@ pub use order::may_stand;
 pub use order::standing_of;
 pub use order::type_stands;
 pub use step::next_deleghe;
-pub use step::next_place;
+pub use step::next_stage;
 pub use step::next_state;
 pub use values::section_sums;
 pub use values::values_fault;
@@ -54,14 +54,14 @@ impl DelegaSums {
     }
 }
 
-// The place in the order of records: what the last record was, and for a line or a balance of which section; the open section's lines.
-pub struct Place {
+// The stage in the order of records: what the last record was, and for a line or a balance of which section; the open section's lines.
+pub struct Stage {
     pub phase: u8,
     pub section: usize,
     pub lines: u64,
 }
 
-impl Place {
+impl Stage {
     pub const START: u8 = 0;
 
     pub const HEAD: u8 = 1;
@@ -92,7 +92,7 @@ pub struct Money {
 
 // What the records so far have established.
 pub struct State {
-    pub place: Place,
+    pub stage: Stage,
     pub deleghe: u64,
     pub money: Money,
     pub seen: usize,
@@ -110,8 +110,8 @@ pub fn start() -> State
 {
     let delega = DelegaSums::zero();
     State {
-        place: Place {
-            phase: Place::START,
+        stage: Stage {
+            phase: Stage::START,
             section: 0,
             lines: 0,
         },

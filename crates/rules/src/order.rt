@@ -3,7 +3,7 @@ ghost use mathlib.Core.Path.{_≡_};
 ghost use mathlib.Core.List.{[], _∷_};
 ghost use Rattle.rules.specs.Order.{among, stands, sectionStands, typeStands, full, standing};
 use crate::Outcome;
-use crate::Place;
+use crate::Stage;
 use layout::Kind;
 use layout::RecordType;
 
@@ -19,18 +19,18 @@ fn one_of(x: u8, a: u8, b: u8, c: u8) -> bool
     x == c
 }
 
-fn line_stands(p: Place, s: usize) -> bool
+fn line_stands(p: Stage, s: usize) -> bool
     ensures { λ r. ⌜ r ≡ stands p (Kind.Line s) ⌝ }
 {
     let phase = p.phase;
     let section = p.section;
-    if phase == Place::DOMICILE {
+    if phase == Stage::DOMICILE {
         return true;
     }
-    if phase == Place::LINE {
+    if phase == Stage::LINE {
         return s == section;
     }
-    if phase == Place::BALANCE {
+    if phase == Stage::BALANCE {
         if section < s {
             return s < 4;
         }
@@ -39,38 +39,38 @@ fn line_stands(p: Place, s: usize) -> bool
 }
 
 // Whether a record of kind k may stand here, the most lines left aside.
-pub fn may_stand(p: Place, k: Kind) -> bool
+pub fn may_stand(p: Stage, k: Kind) -> bool
     ensures { λ r. ⌜ r ≡ stands p k ⌝ }
 {
     let phase = p.phase;
     let section = p.section;
     match k {
-        Kind::Head => phase == Place::START,
+        Kind::Head => phase == Stage::START,
         Kind::Taxpayer => {
-            if phase == Place::HEAD {
+            if phase == Stage::HEAD {
                 true
             } else {
-                one_of(phase, Place::PAYMENT, Place::RECEIPT, Place::ADDRESSEE)
+                one_of(phase, Stage::PAYMENT, Stage::RECEIPT, Stage::ADDRESSEE)
             }
         }
-        Kind::Domicile => phase == Place::TAXPAYER,
+        Kind::Domicile => phase == Stage::TAXPAYER,
         Kind::Line(s) => line_stands(p, s),
         Kind::Balance(s) => {
-            if phase == Place::LINE {
+            if phase == Stage::LINE {
                 s == section
             } else {
                 false
             }
         }
-        Kind::Payment => phase == Place::BALANCE,
-        Kind::Receipt => phase == Place::PAYMENT,
-        Kind::Addressee => phase == Place::RECEIPT,
-        Kind::Tail => one_of(phase, Place::PAYMENT, Place::RECEIPT, Place::ADDRESSEE),
+        Kind::Payment => phase == Stage::BALANCE,
+        Kind::Receipt => phase == Stage::PAYMENT,
+        Kind::Addressee => phase == Stage::RECEIPT,
+        Kind::Tail => one_of(phase, Stage::PAYMENT, Stage::RECEIPT, Stage::ADDRESSEE),
         Kind::Unknown => false,
     }
 }
 
-fn section_stands(p: Place, s: usize) -> bool
+fn section_stands(p: Stage, s: usize) -> bool
     ensures { λ r. ⌜ r ≡ sectionStands p s ⌝ }
 {
     if may_stand(p, Kind::Line(s)) {
@@ -79,7 +79,7 @@ fn section_stands(p: Place, s: usize) -> bool
     may_stand(p, Kind::Balance(s))
 }
 
-fn forty_stands(p: Place) -> bool
+fn forty_stands(p: Stage) -> bool
     ensures { λ r. ⌜ r ≡ typeStands p RecordType.T40 ⌝ }
 {
     if section_stands(p, 0) {
@@ -97,7 +97,7 @@ fn forty_stands(p: Place) -> bool
     section_stands(p, 4)
 }
 
-fn fifty_stands(p: Place) -> bool
+fn fifty_stands(p: Stage) -> bool
     ensures { λ r. ⌜ r ≡ typeStands p RecordType.T50 ⌝ }
 {
     if may_stand(p, Kind::Payment) {
@@ -110,7 +110,7 @@ fn fifty_stands(p: Place) -> bool
 }
 
 // Whether a record that may stand here has type t.
-pub fn type_stands(p: Place, t: RecordType) -> bool
+pub fn type_stands(p: Stage, t: RecordType) -> bool
     ensures { λ r. ⌜ r ≡ typeStands p t ⌝ }
 {
     match t {
@@ -124,28 +124,18 @@ pub fn type_stands(p: Place, t: RecordType) -> bool
     }
 }
 
-fn is_full(p: Place, k: Kind) -> bool
+fn is_full(p: Stage, k: Kind) -> bool
     ensures { λ r. ⌜ r ≡ full p k ⌝ }
 {
-    match k {
-        Kind::Head => false,
-        Kind::Taxpayer => false,
-        Kind::Domicile => false,
-        Kind::Line(s) => {
-            let section = layout::section_at(s);
-            section.most_lines <= p.lines
-        }
-        Kind::Balance(_) => false,
-        Kind::Payment => false,
-        Kind::Receipt => false,
-        Kind::Addressee => false,
-        Kind::Tail => false,
-        Kind::Unknown => false,
-    }
+    let Kind::Line(s) = k else {
+        return false;
+    };
+    let section = layout::section_at(s);
+    section.most_lines <= p.lines
 }
 
 // Checks 4 and 6.
-pub fn standing_of(p: Place, t: RecordType, k: Kind) -> Outcome
+pub fn standing_of(p: Stage, t: RecordType, k: Kind) -> Outcome
     ensures { λ r. ⌜ r ≡ standing p t k ⌝ }
 {
     if may_stand(p, k) {

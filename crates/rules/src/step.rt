@@ -1,39 +1,39 @@
 // The state after a record.
 ghost use mathlib.Core.Path.{_≡_};
 ghost use Prim.Native.Nat.{_<_};
-ghost use Rattle.rules.specs.State.{noSums, placedAt, SumsBelow, MoneyBelow, Small, Room};
-ghost use Rattle.rules.specs.Step.{added, addedAt, nextPlace, nextDeleghe, nextMoney, nextOf};
+ghost use Rattle.rules.specs.State.{noSums, stageAt, SumsBelow, MoneyBelow, Small, Room};
+ghost use Rattle.rules.specs.Step.{added, addedAt, nextStage, nextDeleghe, nextMoney, nextOf};
 use crate::DelegaSums;
 use crate::Money;
-use crate::Place;
+use crate::Stage;
 use crate::State;
 use crate::Sums;
 use crate::amounts::final_of;
 use layout::Kind;
 
-// The place after a record of kind k.
-pub fn next_place(p: Place, k: Kind) -> Place
+// The stage after a record of kind k.
+pub fn next_stage(p: Stage, k: Kind) -> Stage
     requires { ⌜ p .lines < 1000 ⌝ }
-    ensures { λ r. ⌜ r ≡ nextPlace p k ⌝ }
+    ensures { λ r. ⌜ r ≡ nextStage p k ⌝ }
 {
     match k {
-        Kind::Head => placed(Place::HEAD, 0, 0),
-        Kind::Taxpayer => placed(Place::TAXPAYER, 0, 0),
-        Kind::Domicile => placed(Place::DOMICILE, 0, 0),
-        Kind::Line(s) => placed(Place::LINE, s, p.lines + 1),
-        Kind::Balance(s) => placed(Place::BALANCE, s, 0),
-        Kind::Payment => placed(Place::PAYMENT, 0, 0),
-        Kind::Receipt => placed(Place::RECEIPT, 0, 0),
-        Kind::Addressee => placed(Place::ADDRESSEE, 0, 0),
-        Kind::Tail => placed(Place::TAIL, 0, 0),
+        Kind::Head => staged(Stage::HEAD, 0, 0),
+        Kind::Taxpayer => staged(Stage::TAXPAYER, 0, 0),
+        Kind::Domicile => staged(Stage::DOMICILE, 0, 0),
+        Kind::Line(s) => staged(Stage::LINE, s, p.lines + 1),
+        Kind::Balance(s) => staged(Stage::BALANCE, s, 0),
+        Kind::Payment => staged(Stage::PAYMENT, 0, 0),
+        Kind::Receipt => staged(Stage::RECEIPT, 0, 0),
+        Kind::Addressee => staged(Stage::ADDRESSEE, 0, 0),
+        Kind::Tail => staged(Stage::TAIL, 0, 0),
         Kind::Unknown => p,
     }
 }
 
-fn placed(phase: u8, section: usize, lines: u64) -> Place
-    ensures { λ r. ⌜ r ≡ placedAt phase section lines ⌝ }
+fn staged(phase: u8, section: usize, lines: u64) -> Stage
+    ensures { λ r. ⌜ r ≡ stageAt phase section lines ⌝ }
 {
-    Place {
+    Stage {
         phase,
         section,
         lines,
@@ -45,18 +45,10 @@ pub fn next_deleghe(d: u64, k: Kind) -> u64
     requires { ⌜ d < 1000 ⌝ }
     ensures { λ r. ⌜ r ≡ nextDeleghe d k ⌝ }
 {
-    match k {
-        Kind::Head => d,
-        Kind::Taxpayer => d + 1,
-        Kind::Domicile => d,
-        Kind::Line(_) => d,
-        Kind::Balance(_) => d,
-        Kind::Payment => d,
-        Kind::Receipt => d,
-        Kind::Addressee => d,
-        Kind::Tail => d,
-        Kind::Unknown => d,
+    if let Kind::Taxpayer = k {
+        return d + 1;
     }
+    d
 }
 
 // A line's amounts added to a debit and a credit sum.
@@ -147,16 +139,16 @@ fn next_money(m: Money, k: Kind, x: Sums) -> Money
 // The state after a record of kind k, which, if it is a line, has the amounts x.
 pub fn next_state(st: State, k: Kind, x: Sums) -> State
     requires { ⌜ MoneyBelow 1_000_000_000_000_000_000 (st .money) × Small x ⌝ }
-    requires { ⌜ (st .place .lines < 1000) × (st .deleghe < 1000) × (st .seen < 1000) ⌝ }
+    requires { ⌜ (st .stage .lines < 1000) × (st .deleghe < 1000) × (st .seen < 1000) ⌝ }
     ensures { λ r. ⌜ r ≡ nextOf st k x ⌝ }
 {
-    let place = st.place;
+    let stage = st.stage;
     let money = st.money;
-    let p = next_place(place, k);
+    let p = next_stage(stage, k);
     let d = next_deleghe(st.deleghe, k);
     let m = next_money(money, k, x);
     State {
-        place: p,
+        stage: p,
         deleghe: d,
         money: m,
         seen: st.seen + 1,

@@ -49,7 +49,7 @@ fn carries(expected: u64, n: u64) -> Outcome
     }
 }
 
-// Checks 12 and 13, of the character at the sign's place and the stored balance.
+// Checks 12 and 13, of the character at the sign's column and the stored balance.
 fn balance_end(s: usize, t: Sums, sign: u8, balance: u64) -> Outcome
     ensures { λ r. ⌜ r ≡ balanceEnd s t sign balance ⌝ }
 {

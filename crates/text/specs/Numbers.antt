@@ -27,10 +27,10 @@ amountOf (NonDigit i) = 0
 amountOf TooLong = 0
 
 -- The offset of the first byte that is no digit, and 0 where there is none.
-abbrev pub placeOf : Digits → ℕ
-placeOf (Number n) = 0
-placeOf (NonDigit i) = i
-placeOf TooLong = 0
+abbrev pub offsetOf : Digits → ℕ
+offsetOf (Number n) = 0
+offsetOf (NonDigit i) = i
+offsetOf TooLong = 0
 
 -- A field has at most fifteen digits: a longer part is none.
 unfoldable pub readNumber : List ℕ → Digits

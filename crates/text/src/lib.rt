@@ -5,7 +5,7 @@ ghost use Prim.Native.Nat.{_+_, _^_, _≤_};
 ghost use lib.Dec.{ltb};
 ghost use lib.ListN.{length};
 ghost use Rattle.text.specs.Characters.{firstBad, allAllowed};
-ghost use Rattle.text.specs.Numbers.{readNumber, placeOf, digitsOf};
+ghost use Rattle.text.specs.Numbers.{readNumber, offsetOf, digitsOf};
 ghost use Rattle.text.specs.Placing.{putAt, partFits, numberFits, partAnswer, partBytes, numberAnswer, numberBytes};
 
 pub enum Characters {
@@ -38,7 +38,7 @@ pub fn all_allowed(part: &[u8]) -> bool
     !bad
 }
 
-// A part that is not allowed is searched, so that the place of its first bad byte can be told.
+// A part that is not allowed is searched, so that the offset of its first bad byte can be told.
 fn search_bad(part: &[u8]) -> Characters
     ensures { λ r. ⌜ r ≡ firstBad (now (part .entry)) ⌝ }
 {
@@ -56,7 +56,7 @@ fn search_bad(part: &[u8]) -> Characters
     Characters::Allowed
 }
 
-// Nearly every part of a flow is allowed, so that the search for a place is seldom needed.
+// Nearly every part of a flow is allowed, so that the search for it is seldom needed.
 pub fn first_bad(part: &[u8]) -> Characters
     ensures { λ r. ⌜ r ≡ firstBad (now (part .entry)) ⌝ }
 {
@@ -90,8 +90,8 @@ pub fn number(part: &[u8]) -> Digits
 }
 
 // A refusal names the first character of a field that is no digit.
-pub fn place_of(d: Digits) -> usize
-    ensures { λ r. ⌜ r ≡ placeOf d ⌝ }
+pub fn offset_of(d: Digits) -> usize
+    ensures { λ r. ⌜ r ≡ offsetOf d ⌝ }
 {
     match d {
         Digits::Number(_) => 0,

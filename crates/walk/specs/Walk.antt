@@ -6,19 +6,19 @@ use mathlib.Core.List.{List, [], _∷_}
 use lib.Dec.{eqb, ltb}
 use lib.ListN.{length, getD}
 use denote.Ref.{RefT, now}
-use Rattle.judge.specs.declared.Verdict.{Verdict}
-use Rattle.judge.specs.declared.Verdict.the-variants as Judged
-use Rattle.judge.specs.Flow.{Refusal, refusalOf, recordsOf, judged}
+use Rattle.judge.specs.Refusal.{Refusal, refusal, noRefusal, refusalOf, judgedFirst}
+use Rattle.judge.specs.Flow.{recordsOf, judged}
+use Rattle.judge.specs.Part.{recordAt, recordStart, LiesAt}
 use Rattle.walk.specs.declared.WalkPlace.{WalkPlace}
 use Rattle.walk.specs.declared.Answer.{Answer}
 use Rattle.walk.specs.declared.Answer.the-variants.{Shown, NoMore, Refused}
 use Rattle.walk.specs.declared.Step.{Step}
 
--- "A refusal is a number, a record counted from 1, and a position": those of an answer; a record shown and the end have none
+-- the refusal of an answer; a record shown and the end have none
 abbrev pub refusalIn : Answer → Refusal
-refusalIn (Shown k) = record { number = 0; place = 0; position = 0 }
-refusalIn NoMore = record { number = 0; place = 0; position = 0 }
-refusalIn (Refused n r p) = record { number = n; place = r; position = p }
+refusalIn (Shown k) = noRefusal
+refusalIn NoMore = noRefusal
+refusalIn (Refused n r p) = refusal n r p
 
 -- "its present place, which is the number of records shown": none at the start
 abbrev pub placeStart : WalkPlace
@@ -28,14 +28,9 @@ placeStart = record { shown = 0 }
 unfoldable pub placeNext : WalkPlace → WalkPlace
 placeNext p = cond (ltb (p .shown) 18446744073709551615) (record { shown = p .shown + 1 }) p
 
--- "Every call on a flow judges it first and gives that refusal if there is one"
-abbrev pub judgedFirst : Verdict → Answer → Answer
-judgedFirst Judged.Accepted a = a
-judgedFirst (Judged.Refused n r p) a = Refused n r p
-
 -- "The k-th step from the start hands back the k-th record"; "At EF's end, or at a place beyond it, it answers that there is no more"
 unfoldable pub answerAt : List ℕ → WalkPlace → Answer
-answerAt f p = judgedFirst (judged f .verdict) (cond (ltb (p .shown) (length f / 120)) (Shown (p .shown + 1)) NoMore)
+answerAt f p = judgedFirst Refused (judged f .verdict) (cond (ltb (p .shown) (length f / 120)) (Shown (p .shown + 1)) NoMore)
 
 -- "the place stays" at the end, and "A refused step does the same with its refusal"
 abbrev pub placeAfter : Answer → WalkPlace → WalkPlace
@@ -46,14 +41,6 @@ placeAfter (Refused n r q) p = p
 -- "walks an accepted flow record by record": the answer of a step, and the place after it
 abbrev pub stepAt : List ℕ → WalkPlace → Step
 stepAt f p = record { answer = answerAt f p; next = placeAfter (answerAt f p) p }
-
--- "the k-th record", counted from 1; empty where there is none
-unfoldable pub recordAt : List ℕ → ℕ → List ℕ
-recordAt f k = getD ([] ∷ recordsOf f) k []
-
--- "Each record has 120 characters. Records follow one another with no line ends": where the k-th starts; 0 where there is none
-unfoldable pub recordStart : List ℕ → ℕ → ℕ
-recordStart f k = cond (eqb k 0) 0 (cond (ltb (length f / 120) k) 0 (k * 120 - 120))
 
 -- "hands back the k-th record as a part of the flow", and else "an empty part"
 abbrev pub partIn : List ℕ → Answer → List ℕ
@@ -74,10 +61,6 @@ startIn f (Refused n r p) = 0
 -- "as a part of the flow": the index at which the part that a step hands back starts
 abbrev pub startOf : List ℕ → Step → ℕ
 startOf f s = startIn f (s .answer)
-
--- "as a part of the flow", within the caller's own buffer: the bytes of a part, and where it starts
-abbrev pub LiesAt : RefT (List ℕ) → List ℕ → ℕ → RefT (List ℕ) → Type 0
-LiesAt flow bytes start r = (now r ≡ bytes) × (r .ptr .0 ≡ flow .ptr .0) × (r .ptr .1 ≡ flow .ptr .1 + start)
 
 -- "hands back the k-th record as a part of the flow": what is promised of the part that a step hands back
 abbrev pub HandedBack : RefT (List ℕ) → Step → RefT (List ℕ) → Type 0

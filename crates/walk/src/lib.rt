@@ -1,6 +1,6 @@
 // The walk over a flow, record by record, forward only.
 ghost use mathlib.Core.Path.{_≡_};
-ghost use Rattle.walk.specs.Walk.{placeStart, placeNext, answerAt, placeAfter, stepAt, recordAt, recordStart, LiesAt, HandedBack};
+ghost use Rattle.walk.specs.Walk.{placeStart, placeNext, answerAt, placeAfter, stepAt, HandedBack};
 use judge::Verdict;
 use layout::Flow;
 
@@ -90,28 +90,13 @@ pub fn step_at(flow: &[u8], place: WalkPlace) -> Step
     Step { answer, next }
 }
 
-// A record by its number, counted from 1, within the caller's own buffer; an empty part where the flow has none.
-fn record_at(flow: &[u8], k: usize) -> &[u8]
-    ensures { λ r. ⌜ LiesAt (flow .entry) (recordAt (now (flow .entry)) k) (recordStart (now (flow .entry)) k) r ⌝ }
-{
-    if k == 0 {
-        return &flow[0..0];
-    }
-    if flow.len() / Flow::RECORD < k {
-        return &flow[0..0];
-    }
-    let end = k * Flow::RECORD;
-    let start = end - Flow::RECORD;
-    &flow[start..end]
-}
-
 // The record that a step shows, within the caller's own buffer; an empty part where it shows none.
 pub fn part_at(flow: &[u8], step: Step) -> &[u8]
     ensures { λ r. ⌜ HandedBack (flow .entry) step r ⌝ }
 {
     let answer = step.answer;
     match answer {
-        Answer::Shown(k) => record_at(flow, k),
+        Answer::Shown(k) => judge::nth_record(flow, k),
         Answer::NoMore => &flow[0..0],
         Answer::Refused(_, _, _) => &flow[0..0],
     }

@@ -18,7 +18,7 @@ accepted c = ap (λ (j : Judgement). j .verdict) (sym (c .before .before .judge 
 -- the subtype is that of a section's lines
 searched : (c : tie.After-line-in) →
     let a = c .before .before .before .before .before .before .before .before .before .args in
-    foundIn (a .flow .now) (a .delega) (a .subtype) (a .place) ≡ orAbsent (c .line-in .result)
+    foundIn (a .flow .now) (a .delega) (a .subtype) (a .nth) ≡ orAbsent (c .line-in .result)
 searched c =
     let q = c .before .before .before .before in
     found-sought _ _ _ _ (accepted (q .before)) _ (sym (q .section-kind .ensures) ∙ c .before .before .section .given .1) ∙ ap orAbsent (sym (c .line-in .ensures))

@@ -10,7 +10,7 @@ enum-known-kind : tie.Need-enum-known-kind
 enum-known-kind c = search needs
 
 returns : tie.Need-returns
-returns c = let a = c .before .args in sym (no-line (a .delega) (a .section) (a .place) (a .at) (a .opened) (a .kind) (c .match .keys2))
+returns c = let a = c .before .args in sym (no-line (a .delega) (a .section) (a .nth) (a .at) (a .opened) (a .kind) (c .match .keys2))
 
 returns-2 : tie.Need-returns-2
 returns-2 c = rw (c .before .before .kind .given .1, ne-eqb _ _ (c .if1 .taken))

@@ -10,10 +10,10 @@ use Rattle.find.proofs.line_in.Statement.{statement}
 use Rattle.find.proofs.line_in.Tie as tie
 
 abbrev Inv-loop : tie.InvT-loop
-Inv-loop flow delega section place count at₀ opened₀ k₀ at opened k = Searching flow delega section place at opened k
+Inv-loop flow delega section nth count at₀ opened₀ k₀ at opened k = Searching flow delega section nth at opened k
 
 abbrev μ-loop : tie.MeasureT-loop
-μ-loop flow delega section place count at₀ opened₀ k₀ at opened k = count - k
+μ-loop flow delega section nth count at₀ opened₀ k₀ at opened k = count - k
 
 -- the place after `record_at`: a record is left, and it is whole
 abbrev AtRec : Type 0
@@ -46,8 +46,8 @@ add-result c = search needs
 returns : tie.Need-returns Inv-loop μ-loop
 returns c = sym (search-finds _ _ _ _ _ _ _ (c .before .before .before .before .before .loop .inv) (search needs) _ (c .before .before .before .record-at .ensures) _ (c .before .before .kind-in .ensures) (sym (c .before .is-line .ensures) ∙ c .if1 .taken))
 
-next-place-requires : tie.Need-next-place-requires Inv-loop μ-loop
-next-place-requires c κs = search needs
+next-stage-requires : tie.Need-next-stage-requires Inv-loop μ-loop
+next-stage-requires c κs = search needs
 
 next-deleghe-requires : tie.Need-next-deleghe-requires Inv-loop μ-loop
 next-deleghe-requires c κs = search needs
@@ -59,7 +59,7 @@ loop-less : tie.Need-loop-less Inv-loop μ-loop
 loop-less c = search needs
 
 loop-again : tie.Need-loop-again Inv-loop μ-loop
-loop-again c = rw (c .next-deleghe .ensures, c .before .next-place .ensures) (search-on _ _ _ _ _ _ _ (c .before .before .before .before .before .before .before .loop .inv) (search needs) _ (c .before .before .before .before .before .record-at .ensures) _ (c .before .before .before .before .kind-in .ensures) (sym (c .before .before .before .is-line .ensures) ∙ c .before .before .if1 .left))
+loop-again c = rw (c .next-deleghe .ensures, c .before .next-stage .ensures) (search-on _ _ _ _ _ _ _ (c .before .before .before .before .before .before .before .loop .inv) (search needs) _ (c .before .before .before .before .before .record-at .ensures) _ (c .before .before .before .before .kind-in .ensures) (sym (c .before .before .before .is-line .ensures) ∙ c .before .before .if1 .left))
 
 returns-2 : tie.Need-returns-2 Inv-loop μ-loop
 returns-2 c = sym (search-ends _ _ _ _ _ _ _ (c .before .loop .inv) (search needs))
@@ -77,7 +77,7 @@ line-in-spec =
     is-line-requires
     add-result
     returns
-    next-place-requires
+    next-stage-requires
     next-deleghe-requires
     add-k
     loop-less

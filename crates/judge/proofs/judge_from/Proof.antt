@@ -89,7 +89,7 @@ kind-of c = c .before .before .before .before .before .before .before
 abbrev fl : AtFields → List Field
 fl c = fieldsOf (k (kind-of c))
 
-stood : (c : AtFields) → standing (st (rec-of (kind-of c)) .place) (typeIn (r (rec-of (kind-of c)))) (k (kind-of c)) ≡ Pass
+stood : (c : AtFields) → standing (st (rec-of (kind-of c)) .stage) (typeIn (r (rec-of (kind-of c)))) (k (kind-of c)) ≡ Pass
 stood c = rw (← (c .before .before .before .before .before .type-in .ensures)) (sym (c .before .before .before .before .standing-of .ensures) ∙ c .before .before .enum-told2 .given .1)
 
 listed-are : (c : AtFields) → c .before .fields-of .result ≡ listed (fl c)

@@ -1,103 +1,24 @@
-use Rattle.rules.specs.Order.{stands, sectionStands, typeStands, full, standing, among}
+-- `rules::order::is_full` meets its contract: a record that is no line is never one line too many.
+use Rattle.layout.proofs.OtherKinds.{no-line}
+use Rattle.rules.specs.Order.{full}
 use borrow.Author.Needs.{needs}
+use mathlib.Core.Path.{sym}
 use Rattle.rules.proofs.order.is_full.Statement.{statement}
 use Rattle.rules.proofs.order.is_full.Tie as tie
-
-enum-told : tie.Need-enum-told
-enum-told c = search needs
-
-enum-told-2 : tie.Need-enum-told-2
-enum-told-2 c = search needs
-
-enum-told-3 : tie.Need-enum-told-3
-enum-told-3 c = search needs
 
 enum-known-k : tie.Need-enum-known-k
 enum-known-k c = search needs
 
+returns : tie.Need-returns
+unfolding full
+returns c = sym (no-line _ _ (c .before .args .k) (c .match .keys2))
+
 section-at-requires : tie.Need-section-at-requires
 section-at-requires c κs = search needs
 
-enum-told-4 : tie.Need-enum-told-4
-enum-told-4 c = search needs
-
-enum-told-5 : tie.Need-enum-told-5
-enum-told-5 c = search needs
-
-enum-told-6 : tie.Need-enum-told-6
-enum-told-6 c = search needs
-
-enum-told-7 : tie.Need-enum-told-7
-enum-told-7 c = search needs
-
-enum-told-8 : tie.Need-enum-told-8
-enum-told-8 c = search needs
-
-enum-told-9 : tie.Need-enum-told-9
-enum-told-9 c = search needs
-
-returns : tie.Need-returns
-unfolding full
-returns c = rw (c .enum-told .given .1)
-
 returns-2 : tie.Need-returns-2
 unfolding full
-returns-2 c = rw (c .enum-told2 .given .1)
-
-returns-3 : tie.Need-returns-3
-unfolding full
-returns-3 c = rw (c .enum-told3 .given .1)
-
-returns-4 : tie.Need-returns-4
-unfolding full
-returns-4 c = rw (c .before .before .before .before .k .given .1, c .before .before .section-at .ensures)
-
-returns-5 : tie.Need-returns-5
-unfolding full
-returns-5 c = rw (c .enum-told4 .given .1)
-
-returns-6 : tie.Need-returns-6
-unfolding full
-returns-6 c = rw (c .enum-told5 .given .1)
-
-returns-7 : tie.Need-returns-7
-unfolding full
-returns-7 c = rw (c .enum-told6 .given .1)
-
-returns-8 : tie.Need-returns-8
-unfolding full
-returns-8 c = rw (c .enum-told7 .given .1)
-
-returns-9 : tie.Need-returns-9
-unfolding full
-returns-9 c = rw (c .enum-told8 .given .1)
-
-returns-10 : tie.Need-returns-10
-unfolding full
-returns-10 c = rw (c .enum-told9 .given .1)
+returns-2 c = rw (c .before .before .before .before .k .given .1, c .before .before .section-at .ensures)
 
 pub is-full-spec : {M : Type 1} → statement M
-is-full-spec =
-    tie.close
-    (tie.spec
-    enum-told
-    enum-told-2
-    enum-told-3
-    enum-known-k
-    section-at-requires
-    enum-told-4
-    enum-told-5
-    enum-told-6
-    enum-told-7
-    enum-told-8
-    enum-told-9
-    returns
-    returns-2
-    returns-3
-    returns-4
-    returns-5
-    returns-6
-    returns-7
-    returns-8
-    returns-9
-    returns-10)
+is-full-spec = tie.close (tie.spec enum-known-k returns section-at-requires returns-2)

@@ -2,8 +2,8 @@ use borrow.Author.Needs.{needs}
 use Rattle.rules.proofs.step.next_state.Statement.{statement}
 use Rattle.rules.proofs.step.next_state.Tie as tie
 
-next-place-requires : tie.Need-next-place-requires
-next-place-requires c κs = search needs
+next-stage-requires : tie.Need-next-stage-requires
+next-stage-requires c κs = search needs
 
 next-deleghe-requires : tie.Need-next-deleghe-requires
 next-deleghe-requires c κs = search needs
@@ -15,9 +15,9 @@ add-t9 : tie.Need-add-t9
 add-t9 c = search needs
 
 returns : tie.Need-returns
-returns c = simp (c .before .before .before .next-place .ensures, c .before .before .next-deleghe .ensures, c .before .next-money .ensures)
+returns c = simp (c .before .before .before .next-stage .ensures, c .before .before .next-deleghe .ensures, c .before .next-money .ensures)
 
 pub next-state-spec : {M : Type 1} → statement M
 next-state-spec =
     tie.close
-    (tie.spec next-place-requires next-deleghe-requires next-money-requires add-t9 returns)
+    (tie.spec next-stage-requires next-deleghe-requires next-money-requires add-t9 returns)

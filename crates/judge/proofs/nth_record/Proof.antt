@@ -1,12 +1,12 @@
--- `record_at` meets its contract: the bytes of the part are those of the record, by the laws of `Records`.
+-- `judge::nth_record` meets its contract: the bytes of the part are those of the record, by the laws of `Records`.
 use lib.ListN.{take, drop}
 use mathlib.Core.Path.{_≡_, refl, sym, ap, _∙_}
 use Prim.Native.Nat.{ℕ, _-_, _*_}
 use native.Mathlib.Omega.{arith}
-use Rattle.walk.proofs.Records.{none-first, none-beyond, record-there}
+use Rattle.judge.proofs.Records.{none-first, none-beyond, record-there}
 use borrow.Author.Needs.{needs}
-use Rattle.walk.proofs.record_at.Statement.{statement}
-use Rattle.walk.proofs.record_at.Tie as tie
+use Rattle.judge.proofs.nth_record.Statement.{statement}
+use Rattle.judge.proofs.nth_record.Tie as tie
 
 sub-result : tie.Need-sub-result
 sub-result c = search needs
@@ -59,8 +59,8 @@ returns-3 c =
     let w : k * 120 - (k * 120 - 120) ≡ 120 = omega arith in
     (ap (λ (m : ℕ). take m (drop (k * 120 - 120) f)) w ∙ sym (e .0), refl, omega (arith, e .1))
 
-pub record-at-spec : {M : Type 1} → statement M
-record-at-spec =
+pub nth-record-spec : {M : Type 1} → statement M
+nth-record-spec =
     tie.close
     (tie.spec
     sub-result
