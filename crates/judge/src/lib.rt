@@ -14,6 +14,7 @@ ghost use Rattle.judge.specs.Flow.{refusedWith, closing, headNameOf, res
 use layout::Field;
 use layout::Flow;
 use layout::Kind;
+use layout::Part;
 use layout::RecordType;
 pub use lines::line_sums;
 use rules::Outcome;
@@ -88,7 +89,7 @@ pub fn record_at(flow: &[u8], at: usize) -> &[u8]
     requires { ⌜ at + 120 ≤ length (now flow) ⌝ }
     ensures { λ r. ⌜ now r ≡ take 120 (drop at (now (flow .entry))) ⌝ }
 {
-    &flow[at..at + 120]
+    &flow[at..at + Flow::RECORD]
 }
 
 // The k-th record, counted from 1, within the caller's own buffer; an empty part where the flow has none.
@@ -117,11 +118,11 @@ fn char_fault(rec: &[u8]) -> Outcome
 }
 
 // The type of a record.
-pub fn type_in(rec: &[u8]) -> RecordType
+fn type_in(rec: &[u8]) -> RecordType
     requires { ⌜ length (now rec) ≡ 120 ⌝ }
     ensures { λ r. ⌜ r ≡ typeIn (now (rec .entry)) ⌝ }
 {
-    layout::type_of(rec[1], rec[2])
+    layout::type_of(rec[Part::TYPE], rec[Part::TYPE + 1])
 }
 
 // The kind of a record.
@@ -129,11 +130,11 @@ pub fn kind_in(rec: &[u8]) -> Kind
     requires { ⌜ length (now rec) ≡ 120 ⌝ }
     ensures { λ r. ⌜ r ≡ kindIn (now (rec .entry)) ⌝ }
 {
-    layout::kind_of(type_in(rec), text::number(&rec[10..12]))
+    layout::kind_of(type_in(rec), text::number(&rec[Part::SUBTYPE..Part::SUBTYPE_END]))
 }
 
 // What the digits of a field say.
-pub fn read_field(rec: &[u8], field: Field) -> Digits
+fn read_field(rec: &[u8], field: Field) -> Digits
     requires { ⌜ (length (now rec) ≡ 120) × Within field ⌝ }
     ensures { λ r. ⌜ r ≡ numberOf (bytesOf (now (rec .entry)) field) ⌝ }
 {
@@ -148,7 +149,7 @@ fn judge_from(flow: &[u8], start: State) -> Judgement
     ensures { λ r. ⌜ r ≡ judgedFrom (headNameOf (now (flow .entry))) start (restOf (now (flow .entry)) (start .seen)) ⌝ }
 {
     let count = flow.len() / Flow::RECORD;
-    let name = &flow[19..39];
+    let name = &flow[Part::SUPPORT_NAME..Part::SUPPORT_NAME_END];
     let mut st = start;
     'records: loop {
         let k = st.seen;

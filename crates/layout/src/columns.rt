@@ -7,6 +7,7 @@ use crate::Amount;
 use crate::Field;
 use crate::Fields;
 use crate::Kind;
+use crate::Position;
 use crate::section_at;
 
 // The amount that starts at an index.
@@ -22,32 +23,32 @@ pub fn amount_at(start: usize) -> Field
 
 // The creation date of F4, the delega number of 10 to 50, the final balance of 50-01, and the tail's deleghe, sum and records.
 const CREATION_DATE: Field = Field {
-    start: 14 - 1,
+    start: Position::CREATION_DATE - 1,
     end: 19,
 };
 
 const DELEGA_NUMBER: Field = Field {
-    start: 4 - 1,
+    start: Position::DELEGA_NUMBER - 1,
     end: 10,
 };
 
 pub const FINAL_BALANCE: Field = Field {
-    start: 36 - 1,
+    start: Position::FINAL_BALANCE - 1,
     end: 50,
 };
 
 pub const TAIL_DELEGHE: Field = Field {
-    start: 46 - 1,
+    start: Position::TAIL_DELEGHE - 1,
     end: 52,
 };
 
 pub const TAIL_SUM: Field = Field {
-    start: 53 - 1,
+    start: Position::TAIL_SUM - 1,
     end: 67,
 };
 
 pub const TAIL_RECORDS: Field = Field {
-    start: 83 - 1,
+    start: Position::TAIL_RECORDS - 1,
     end: 89,
 };
 

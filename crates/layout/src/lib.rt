@@ -39,6 +39,48 @@ impl Flow {
     pub const MOST_BYTES: usize = Self::MOST_RECORDS * Self::RECORD;
 }
 
+// Where the fields of the records start, as document 01 and CBI-F24-001 count positions. The lines and balances have theirs in the table of sections.
+pub struct Position {
+    pub from: usize,
+}
+
+impl Position {
+    pub const TYPE: usize = 2;
+
+    pub const DELEGA_NUMBER: usize = 4;
+
+    pub const SUBTYPE: usize = 11;
+
+    pub const CREATION_DATE: usize = 14;
+
+    pub const SUPPORT_NAME: usize = 20;
+
+    pub const FINAL_BALANCE: usize = 36;
+
+    pub const TAIL_DELEGHE: usize = 46;
+
+    pub const TAIL_SUM: usize = 53;
+
+    pub const TAIL_RECORDS: usize = 83;
+}
+
+// The indexes of the fields that are taken as parts of a record: where each begins, and the index behind its end.
+pub struct Part {
+    pub from: usize,
+}
+
+impl Part {
+    pub const TYPE: usize = Position::TYPE - 1;
+
+    pub const SUBTYPE: usize = Position::SUBTYPE - 1;
+
+    pub const SUBTYPE_END: usize = 12;
+
+    pub const SUPPORT_NAME: usize = Position::SUPPORT_NAME - 1;
+
+    pub const SUPPORT_NAME_END: usize = 39;
+}
+
 // One section: the subtypes of its lines and of its balance record, where their fields start, and what its lines may be.
 pub struct Section {
     pub line_subtype: u64,

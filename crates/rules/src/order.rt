@@ -5,6 +5,7 @@ ghost use Rattle.rules.specs.Order.{among, stands, sectionStands, typeSt
 use crate::Outcome;
 use crate::Stage;
 use layout::Kind;
+use layout::Position;
 use layout::RecordType;
 
 fn one_of(x: u8, a: u8, b: u8, c: u8) -> bool
@@ -140,12 +141,12 @@ pub fn standing_of(p: Stage, t: RecordType, k: Kind) -> Outcome
 {
     if may_stand(p, k) {
         if is_full(p, k) {
-            return Outcome::Fault(6, 11);
+            return Outcome::Fault(6, Position::SUBTYPE);
         }
         return Outcome::Pass;
     }
     if type_stands(p, t) {
-        return Outcome::Fault(4, 11);
+        return Outcome::Fault(4, Position::SUBTYPE);
     }
-    Outcome::Fault(4, 2)
+    Outcome::Fault(4, Position::TYPE)
 }

@@ -19,6 +19,8 @@ use crate::amounts::sign_of;
 use crate::names::name_right;
 use crate::names::same_bytes;
 use layout::Kind;
+use layout::Part;
+use layout::Position;
 
 // Check 8, of a record that carries n after d records 10.
 fn number_fault(d: u64, k: Kind, n: u64) -> Outcome
@@ -45,7 +47,7 @@ fn carries(expected: u64, n: u64) -> Outcome
     if n == expected {
         Outcome::Pass
     } else {
-        Outcome::Fault(8, 4)
+        Outcome::Fault(8, Position::DELEGA_NUMBER)
     }
 }
 
@@ -85,12 +87,12 @@ fn payment_fault(t: Sums, v: u64) -> Outcome
     ensures { λ r. ⌜ r ≡ paymentOn t v ⌝ }
 {
     if t.debit < t.credit {
-        return Outcome::Fault(14, 2);
+        return Outcome::Fault(14, Position::TYPE);
     }
     if v == final_of(t) {
         return Outcome::Pass;
     }
-    Outcome::Fault(15, 36)
+    Outcome::Fault(15, Position::FINAL_BALANCE)
 }
 
 // Checks 16 and 17, of the head.
@@ -101,9 +103,9 @@ fn head_fault(name: &[u8], date: u64) -> Outcome
         if date_right(date) {
             return Outcome::Pass;
         }
-        return Outcome::Fault(17, 14);
+        return Outcome::Fault(17, Position::CREATION_DATE);
     }
-    Outcome::Fault(16, 20)
+    Outcome::Fault(16, Position::SUPPORT_NAME)
 }
 
 // Checks 18 to 20, of the tail.
@@ -114,13 +116,13 @@ fn tail_fault(st: State, vs: [u64; 4]) -> Outcome
     let money = st.money;
     let records = st.seen + 1;
     if vs[0] != st.deleghe {
-        return Outcome::Fault(18, 46);
+        return Outcome::Fault(18, Position::TAIL_DELEGHE);
     }
     if vs[2] != records as u64 {
-        return Outcome::Fault(19, 83);
+        return Outcome::Fault(19, Position::TAIL_RECORDS);
     }
     if vs[1] != money.total {
-        return Outcome::Fault(20, 53);
+        return Outcome::Fault(20, Position::TAIL_SUM);
     }
     Outcome::Pass
 }
@@ -144,7 +146,7 @@ fn head_record(rec: &[u8], date: u64) -> Outcome
     requires { ⌜ length (now rec) ≡ 120 ⌝ }
     ensures { λ r. ⌜ r ≡ headOn (bytesOf (now (rec .entry)) supportName) date ⌝ }
 {
-    head_fault(&rec[19..39], date)
+    head_fault(&rec[Part::SUPPORT_NAME..Part::SUPPORT_NAME_END], date)
 }
 
 fn balance_record(st: State, s: usize, rec: &[u8], vs: [u64; 4]) -> Outcome
@@ -160,10 +162,10 @@ fn tail_record(st: State, name: &[u8], rec: &[u8], vs: [u64; 4]) -> Outcome
     requires { ⌜ (length (now rec) ≡ 120) × (st .seen < 1000) ⌝ }
     ensures { λ r. ⌜ r ≡ first (tailName (now (name .entry)) (bytesOf (now (rec .entry)) supportName)) (tailOn st vs) ⌝ }
 {
-    if same_bytes(&rec[19..39], name) {
+    if same_bytes(&rec[Part::SUPPORT_NAME..Part::SUPPORT_NAME_END], name) {
         return tail_fault(st, vs);
     }
-    Outcome::Fault(16, 20)
+    Outcome::Fault(16, Position::SUPPORT_NAME)
 }
 
 // Checks 9 to 20, of a record of kind k whose numeric fields hold the values vs.
