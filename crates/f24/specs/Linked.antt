@@ -1,21 +1,18 @@
--- What the linkable library returns, and what it leaves in the memory that it is lent.
+-- Believed. What the linkable library returns, and what it leaves in the memory that it is lent.
 use Prim.Native.Nat.{ℕ}
 use mathlib.Core.Bool.{cond}
 use mathlib.Core.List.{List, [], _∷_, _++_}
-use lib.Dec.{ltb}
+use lib.Dec.{eqb, ltb}
 use lib.ListN.{length, drop}
 use Rattle.rules.specs.declared.Sums.{Sums}
-use Rattle.judge.specs.declared.Verdict.{Verdict}
-use Rattle.judge.specs.declared.Verdict.the-variants.{Accepted, Refused}
 use Rattle.judge.specs.declared.Summary.{Summary}
+use Rattle.judge.specs.Refusal.{Refusal, refusalOf}
 use Rattle.judge.specs.Flow.{judged}
 use Rattle.delega.specs.OneDelega.{delegaOf}
 use Rattle.find.specs.declared.Found.{Found}
 use Rattle.find.specs.declared.Found.the-variants as Line
-use Rattle.find.specs.Line.{foundIn}
-use Rattle.correct.specs.declared.Correction.{Correction}
-use Rattle.correct.specs.declared.Correction.the-variants as Change
-use Rattle.correct.specs.Correction.{correctionOf, correctedBytes}
+use Rattle.find.specs.Line.{refusalFound, foundIn}
+use Rattle.correct.specs.Correction.{refusalMade, correctionOf, correctedBytes}
 
 -- The first numbers of a room are replaced by those of a list, and the rest stays as it came.
 unfoldable pub overlay : List ℕ → List ℕ → List ℕ
@@ -46,67 +43,46 @@ delegaNumbers balance sums = balance ∷ sumsNumbers sums
 abbrev pub refusalNumbers : ℕ → ℕ → List ℕ
 refusalNumbers r p = r ∷ p ∷ []
 
--- A verdict returns 0, or the number of the refusal.
-abbrev pub verdictCode : Verdict → ℕ
-verdictCode Accepted = 0
-verdictCode (Refused n r p) = n
+-- A refusal has a number and writes its record and its position; an answer that is none has the number 0 and writes its own numbers.
+unfoldable pub answerNumbers : Refusal → List ℕ → List ℕ
+answerNumbers x xs = cond (eqb (x .number) 0) xs (refusalNumbers (x .«record») (x .position))
 
--- An acceptance writes the numbers of its answer, and a refusal its own.
-abbrev pub verdictNumbers : Verdict → List ℕ → List ℕ
-verdictNumbers Accepted xs = xs
-verdictNumbers (Refused n r p) xs = refusalNumbers r p
-
--- A line that is found returns 0, and a refusal its number.
-abbrev pub foundCode : Found → ℕ
-foundCode (Line.At k) = 0
-foundCode (Line.Refused n r p) = n
-
--- A line that is found writes the number of its record, and a refusal its own numbers.
+-- A line that is found writes the number of its record.
 abbrev pub foundNumbers : Found → List ℕ
 foundNumbers (Line.At k) = k ∷ []
-foundNumbers (Line.Refused n r p) = refusalNumbers r p
-
--- A correction that is made returns 0, and a refusal its number.
-abbrev pub correctionCode : Correction → ℕ
-correctionCode Change.Made = 0
-correctionCode (Change.Refused n r p) = n
-
--- A correction that is made writes no number, and a refusal its own numbers.
-abbrev pub correctionNumbers : Correction → List ℕ
-correctionNumbers Change.Made = []
-correctionNumbers (Change.Refused n r p) = refusalNumbers r p
+foundNumbers (Line.Refused n r p) = []
 
 -- `f24_judge` returns 100 for a room of fewer than 13 numbers, and else what the judgement of the flow says.
 unfoldable pub judgeCode : List ℕ → List ℕ → ℕ
-judgeCode f room = codeOr 13 room (verdictCode (judged f .verdict))
+judgeCode f room = codeOr 13 room (refusalOf (judged f .verdict) .number)
 
 -- It leaves such a room as it came, and else writes the summary or the refusal.
 unfoldable pub judgeRoom : List ℕ → List ℕ → List ℕ
-judgeRoom f room = roomOr 13 room (verdictNumbers (judged f .verdict) (summaryNumbers (judged f .summary)))
+judgeRoom f room = roomOr 13 room (answerNumbers (refusalOf (judged f .verdict)) (summaryNumbers (judged f .summary)))
 
 -- `f24_delega` returns 100 for a room of fewer than 11 numbers, and else what the answer for delega d says.
 unfoldable pub delegaCode : List ℕ → ℕ → List ℕ → ℕ
-delegaCode f d room = codeOr 11 room (verdictCode (delegaOf f d .verdict))
+delegaCode f d room = codeOr 11 room (refusalOf (delegaOf f d .verdict) .number)
 
 -- It leaves such a room as it came, and else writes the delega or the refusal.
 unfoldable pub delegaRoom : List ℕ → ℕ → List ℕ → List ℕ
-delegaRoom f d room = roomOr 11 room (verdictNumbers (delegaOf f d .verdict) (delegaNumbers (delegaOf f d .balance) (delegaOf f d .sums)))
+delegaRoom f d room = roomOr 11 room (answerNumbers (refusalOf (delegaOf f d .verdict)) (delegaNumbers (delegaOf f d .balance) (delegaOf f d .sums)))
 
 -- `f24_find` returns 100 for a room of fewer than 2 numbers, and else what the search for the n-th line of a subtype in delega d says.
 unfoldable pub findCode : List ℕ → ℕ → ℕ → ℕ → List ℕ → ℕ
-findCode f d subtype n room = codeOr 2 room (foundCode (foundIn f d subtype n))
+findCode f d subtype n room = codeOr 2 room (refusalFound (foundIn f d subtype n) .number)
 
 -- It leaves such a room as it came, and else writes the number of the record or the refusal.
 unfoldable pub findRoom : List ℕ → ℕ → ℕ → ℕ → List ℕ → List ℕ
-findRoom f d subtype n room = roomOr 2 room (foundNumbers (foundIn f d subtype n))
+findRoom f d subtype n room = roomOr 2 room (answerNumbers (refusalFound (foundIn f d subtype n)) (foundNumbers (foundIn f d subtype n)))
 
 -- `f24_correct` returns 100 for a room of fewer than 2 numbers, and else what the correction of that line says.
 unfoldable pub correctCode : List ℕ → ℕ → ℕ → ℕ → ℕ → ℕ → List ℕ → ℕ
-correctCode f d subtype n debit credit room = codeOr 2 room (correctionCode (correctionOf f d subtype n debit credit))
+correctCode f d subtype n debit credit room = codeOr 2 room (refusalMade (correctionOf f d subtype n debit credit) .number)
 
 -- It leaves such a room as it came, and else writes nothing or the refusal.
 unfoldable pub correctRoom : List ℕ → ℕ → ℕ → ℕ → ℕ → ℕ → List ℕ → List ℕ
-correctRoom f d subtype n debit credit room = roomOr 2 room (correctionNumbers (correctionOf f d subtype n debit credit))
+correctRoom f d subtype n debit credit room = roomOr 2 room (answerNumbers (refusalMade (correctionOf f d subtype n debit credit)) [])
 
 -- It leaves the flow as it came where the room is too short, and else corrects it.
 unfoldable pub correctFlow : List ℕ → ℕ → ℕ → ℕ → ℕ → ℕ → List ℕ → List ℕ

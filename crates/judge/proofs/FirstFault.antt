@@ -114,6 +114,7 @@ refused-for s x e z = by-size (sized s)
     by-verdict : (v : Verdict) → judged s .verdict ≡ v → Whole s → RefusedFor s x
     by-verdict Accepted q w = absurd (z (ap (λ (y : Refusal). y .number) (sym e ∙ ap refusalOf q)))
     by-verdict (Refused n r p) q w = rw (sym e ∙ ap refusalOf q) (whole-refused s w n r p q)
+
     by-size : Sized s → RefusedFor s x
     by-size (long h) = LongFlow h (sym e ∙ ap told-of (judged-long s h))
     by-size (none h) = NoBytes h (sym e ∙ ap told-of (judged-empty s (omega arith) h))
@@ -158,6 +159,7 @@ judgement-number s {n} {r} {p} e = by-size (sized s)
   where
     told-with : {m : ℕ} → judged s ≡ refusedWith m 0 0 → n ≡ m
     told-with q = ap (λ (y : Refusal). y .number) (sym (ap refusalOf e) ∙ ap told-of q)
+
     by-size : Sized s → (1 ≤ n) × (n ≤ 20)
     by-size (long h) = let k = told-with (judged-long s h) in (omega arith, omega arith)
     by-size (none h) = let k = told-with (judged-empty s (omega arith) h) in (omega arith, omega arith)

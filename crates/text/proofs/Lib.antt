@@ -4,3 +4,4 @@ pub mod Numerals
 pub mod Puts
 pub mod Fits
 pub mod Writing
+pub mod OneAnswer

@@ -10,7 +10,7 @@ use borrow.Author.Tests.{lt-ltb, le-ltb, ltb-true, ltb-false}
 use lib.Dec.{ltb, eqb, eqb·suc-zero, lit<}
 use lib.ListN.{length, drop, getD, length-append, drop-of-length-le}
 use Rattle.text.specs.declared.Digits.the-variants.{Number, NonDigit, TooLong}
-use Rattle.text.specs.Numbers.{digit, numberFrom, numberOf, amountOf, offsetOf, readNumber, digitsOf}
+use Rattle.text.specs.Numbers.{digit, numberFrom, numberOf, amountOf, readNumber, digitsOf}
 use Rattle.text.proofs.Bytes.{drop-one, between, within}
 
 module _ (l : List ℕ) (i : ℕ) (h : i < length l) (a : ℕ) where
@@ -67,20 +67,6 @@ below-from (b ∷ bs) i a = go (digit b) refl (below-from bs (i + 1) (a * 10 + (
 -- The amount of a list of w characters is below 10 ^ w.
 pub number-below : (w : ℕ) (l : List ℕ) → length l ≡ w → amountOf (numberOf l) < 10 ^ w
 number-below w l e = rw (← e) (omega (arith, below-from l 0 0))
-
--- The first byte that is no digit lies within the list, where i digits stand before it.
-offset-from : (l : List ℕ) (i a : ℕ) → offsetOf (numberFrom i a l) ≤ i + length l
-unfolding numberFrom
-offset-from [] i a = omega arith
-offset-from (b ∷ bs) i a = go (digit b) (offset-from bs (i + 1) (a * 10 + (b - 48)))
-  where
-    go : (t : Bool) → offsetOf (numberFrom (i + 1) (a * 10 + (b - 48)) bs) ≤ i + 1 + length bs → offsetOf (cond t (numberFrom (i + 1) (a * 10 + (b - 48)) bs) (NonDigit i)) ≤ i + suc (length bs)
-    go true h = omega arith
-    go false h = omega arith
-
--- The offset of the first character that is no digit lies within the field.
-pub offset-within : (l : List ℕ) → offsetOf (numberOf l) ≤ length l
-offset-within l = omega (arith, offset-from l 0 0)
 
 -- A list that says a number begins with a digit, and what follows it says the number too.
 number-parts : (b : ℕ) (bs : List ℕ) (i a v : ℕ) → numberFrom i a (b ∷ bs) ≡ Number v → (digit b ≡ true) × (numberFrom (i + 1) (a * 10 + (b - 48)) bs ≡ Number v)

@@ -26,12 +26,6 @@ amountOf (Number n) = n
 amountOf (NonDigit i) = 0
 amountOf TooLong = 0
 
--- The offset of the first byte that is no digit, and 0 where there is none.
-abbrev pub offsetOf : Digits → ℕ
-offsetOf (Number n) = 0
-offsetOf (NonDigit i) = i
-offsetOf TooLong = 0
-
 -- A field has at most fifteen digits: a longer part is none.
 unfoldable pub readNumber : List ℕ → Digits
 readNumber l = cond (ltb 15 (length l)) TooLong (numberOf l)

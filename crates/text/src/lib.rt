@@ -5,7 +5,7 @@ ghost use Prim.Native.Nat.{_+_, _^_, _≤_};
 ghost use lib.Dec.{ltb};
 ghost use lib.ListN.{length};
 ghost use Rattle.text.specs.Characters.{firstBad, allAllowed};
-ghost use Rattle.text.specs.Numbers.{readNumber, offsetOf, digitsOf};
+ghost use Rattle.text.specs.Numbers.{readNumber, digitsOf};
 ghost use Rattle.text.specs.Placing.{putAt, partFits, numberFits, partAnswer, partBytes, numberAnswer, numberBytes};
 
 pub enum Characters {
@@ -25,7 +25,7 @@ pub enum Put {
 }
 
 // The loop has no early exit, so that the compiler can test many bytes of a record at once.
-pub fn all_allowed(part: &[u8]) -> bool
+fn all_allowed(part: &[u8]) -> bool
     ensures { λ r. ⌜ r ≡ allAllowed (now (part .entry)) ⌝ }
 {
     let mut bad = false;
@@ -87,17 +87,6 @@ pub fn number(part: &[u8]) -> Digits
         i += 1;
     }
     Digits::Number(n)
-}
-
-// A refusal names the first character of a field that is no digit.
-pub fn offset_of(d: Digits) -> usize
-    ensures { λ r. ⌜ r ≡ offsetOf d ⌝ }
-{
-    match d {
-        Digits::Number(_) => 0,
-        Digits::NonDigit(i) => i,
-        Digits::TooLong => 0,
-    }
 }
 
 // The tests go by a difference, since a sum of any place and any width could wrap.
