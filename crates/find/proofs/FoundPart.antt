@@ -16,24 +16,12 @@ use Rattle.rules.specs.State.{stageAt, atStart}
 use Rattle.rules.specs.Step.{nextStage, nextDeleghe}
 use Rattle.judge.specs.declared.Verdict.{Verdict}
 use Rattle.judge.specs.declared.Verdict.the-variants.{Accepted, Refused}
-use Rattle.judge.specs.Flow.{chunks, recordsOf, judged}
+use Rattle.judge.specs.Refusal.{judgedFirst}
+use Rattle.judge.specs.Flow.{recordsOf, judged}
+use Rattle.judge.proofs.Records.{length-chunks, record-whole, record-number}
 use Rattle.find.specs.declared.Found.the-variants as Answer
-use Rattle.find.specs.Line.{isLine, lineFrom, lineOfKind, lineOf, orAbsent, judgedFirst, foundIn}
+use Rattle.find.specs.Line.{isLine, lineFrom, lineOfKind, lineOf, orAbsent, foundIn}
 use Rattle.find.specs.Part.{partOf}
-
--- n records, of which the i-th, counted from 0, starts behind i records
-length-chunks : (n : ℕ) (s : List ℕ) → length (chunks n s) ≡ n
-unfolding chunks
-length-chunks zero s = refl
-length-chunks (suc n) s = ap suc (length-chunks n (drop 120 s))
-
-chunk-at : (n i : ℕ) (s : List ℕ) → i < n → getD (chunks n s) i [] ≡ take 120 (drop (i * 120) s)
-unfolding chunks
-chunk-at zero i s h = absurd (omega arith)
-chunk-at (suc n) zero s h = refl
-chunk-at (suc n) (suc i) s h =
-    chunk-at n i (drop 120 s) (omega arith)
-    ∙ rw (drop-drop (i * 120) 120 s) (ap (λ (j : ℕ). take 120 (drop j s)) (let e : 120 + i * 120 ≡ suc i * 120 = omega arith in e))
 
 -- the search names no record behind those that are left
 from-bound : (d s n : ℕ) (p : Stage) (e k : ℕ) (rs : List (List ℕ)) → lineFrom d s n p e k rs ≤ k + length rs
@@ -58,7 +46,7 @@ kind-bound d n f Tail = omega arith
 kind-bound d n f Unknown = omega arith
 
 -- an answer that names a record names the one that was sought, and that is counted from 1
-answer-names : (v : Verdict) (m k : ℕ) → judgedFirst v (orAbsent m) ≡ Answer.At k → (m ≡ k) × (0 < k)
+answer-names : (v : Verdict) (m k : ℕ) → judgedFirst Answer.Refused v (orAbsent m) ≡ Answer.At k → (m ≡ k) × (0 < k)
 answer-names Accepted m k e = go (eqb m 0) refl e
   where
     go : (b : Bool) → eqb m 0 ≡ b → cond b (Answer.Refused 21 0 0) (Answer.At m) ≡ Answer.At k → (m ≡ k) × (0 < k)
@@ -77,15 +65,8 @@ pub record KthRecord (f : List ℕ) (k : ℕ) : Type 0 where
   pub whole : length (partOf f (Answer.At k)) ≡ 120
 
 kth-record : (f : List ℕ) (k : ℕ) → 0 < k → k ≤ length f / 120 → KthRecord f k
-unfolding partOf
 kth-record f k h g =
-    let r : cond (cond (eqb k 0) true (ltb (length f / 120) k)) [] (take 120 (drop ((k - 1) * 120) f)) ≡ take 120 (drop ((k - 1) * 120) f) = rw (ne-eqb k 0 (omega arith), le-ltb (length f / 120) k g) in
-    record {
-      counted = h;
-      within = g;
-      record-is = r ∙ sym (chunk-at (length f / 120) (k - 1) f (omega arith));
-      whole = ap length r ∙ length-take-le 120 (drop ((k - 1) * 120) f) (rw length-drop (omega arith));
-    }
+    record { counted = h; within = g; record-is = record-number f k h; whole = record-whole f k (λ z. omega arith) g }
 
 -- "A found line is handed back as that record"
 pub found-part : (f : List ℕ) (d subtype n k : ℕ) → foundIn f d subtype n ≡ Answer.At k → KthRecord f k

@@ -1,3 +1,3 @@
 pub mod Search
 pub mod FoundPart
-pub mod OneLine
+pub mod OneAnswer
