@@ -1,35 +1,27 @@
 -- Of an accepted flow the line that is found is the one that is named, over the plain records: the n-th line of that subtype that carries that delega's number.
-use Prim.Native.Nat.{ℕ, _+_, _-_, _<_, _≤_}
+use Prim.Native.Nat.{ℕ, _-_}
 use mathlib.Core.Path.{_≡_, refl, sym, ap, _∙_}
 use mathlib.Core.Bool.{Bool, true, false, cond}
-use mathlib.Core.List.{List, []}
-use mathlib.Core.Logic.{_↔_, _⊎_, inl, inr}
-use types.Run.{OneOf, miss}
-use denote.Enum.Declared.{tagOf}
+use mathlib.Core.List.{List}
+use mathlib.Core.Logic.{_↔_, inl, inr}
 use native.Mathlib.Omega.{arith}
 use native.Mathlib.Decide.{ℕ-discrete}
 use borrow.Author.Tests.{eqb-true, eqb-false, eq-eqb, ne-eqb}
 use lib.Dec.{eqb}
-use lib.ListN.{length, take, getD}
-use Rattle.layout.specs.declared.Kind.{Kind}
 use Rattle.layout.specs.declared.Kind.the-variants.{Line}
 use Rattle.layout.specs.Sections.{sectionAt}
-use Rattle.layout.specs.Kinds.{ofLine, sectionKind, kindIn}
+use Rattle.layout.specs.Kinds.{sectionKind, kindIn}
 use Rattle.layout.specs.Fields.{delegaNumber, valueOf}
-use Rattle.layout.proofs.Kind.{the-type}
-use Rattle.layout.proofs.OtherKinds.{but-line, no-line}
+use Rattle.layout.proofs.OtherKinds.{no-line}
 use Rattle.rules.specs.State.{startState}
 use Rattle.judge.specs.declared.Verdict.the-variants.{Accepted}
 use Rattle.judge.specs.Flow.{recordsOf, headNameOf, judged}
-use Rattle.judge.specs.Plain.{sumOver}
-use Rattle.judge.specs.Part.{recordAt}
 use Rattle.judge.proofs.Accepted.{accepted-means-no-fault}
 use Rattle.judge.proofs.Records.{record-number}
-use Rattle.find.specs.declared.Found.{Found}
 use Rattle.find.specs.declared.Found.the-variants as Answer
 use Rattle.find.specs.Line.{lineOf, orAbsent, foundIn}
 use Rattle.find.specs.NamedLine.{lineWith, countOf, NthLine}
-use Rattle.find.proofs.Subtypes.{LineOrOther, line-or-other, named-row, row-named, line-row}
+use Rattle.find.proofs.Subtypes.{Other, no-other, LineOrOther, line-or-other, named-row, row-named, line-row}
 use Rattle.find.proofs.NthIn.{NthIn, countTo, counted-is-nth, nth-is-counted, none-counted}
 use Rattle.find.proofs.LinesSoFar.{lineIn, so-far-starts, search-counts}
 
@@ -46,6 +38,7 @@ module _ (d subtype : ℕ) (r : List ℕ) where
           let z : t ≡ s = cc in
           eqb-false t s q z)
 
+  -- so the test over plain records is that of the section
   told : (s : ℕ) → sectionKind subtype ≡ Line s → lineWith d subtype r ≡ lineIn d s (kindIn r) (valueOf r delegaNumber)
   unfolding lineWith
   told s e = go (line-or-other (kindIn r))
@@ -55,12 +48,14 @@ module _ (d subtype : ℕ) (r : List ℕ) where
       go (inr x) = rw (no-line false _ (kindIn r) x, no-line false _ (kindIn r) x)
 
   -- a subtype that names no section is that of no line
-  none-told : OneOf but-line (tagOf the-type (sectionKind subtype)) → lineWith d subtype r ≡ false
+  none-told : Other (sectionKind subtype) → lineWith d subtype r ≡ false
   unfolding lineWith
   none-told o = go (line-or-other (kindIn r))
     where
       go : LineOrOther (kindIn r) → lineWith d subtype r ≡ false
-      go (inl x) = rw (x .1, ne-eqb (sectionAt (x .0) .«line_subtype») subtype (λ y. miss but-line 3 tt (rw (sym (ap sectionKind y) ∙ row-named (x .0) (line-row r (x .0) (x .1))) at o)))
+      go (inl x) =
+          let named = row-named (x .0) (line-row r (x .0) (x .1)) in
+          rw (x .1, ne-eqb (sectionAt (x .0) .«line_subtype») subtype (λ y. no-other (x .0) (rw (sym (ap sectionKind y) ∙ named) at o)))
       go (inr x) = no-line false _ (kindIn r) x
 
 -- the line of an accepted flow, by counting along its records
@@ -93,13 +88,15 @@ named-line f d subtype n k a e z =
 pub line-of-named : (f : List ℕ) (d subtype n k : ℕ) → judged f .verdict ≡ Accepted → NthLine f d subtype n k → lineOf f d subtype n ≡ k
 unfolding countOf
 line-of-named f d subtype n k a h =
-    let x : NthIn (lineWith d subtype) n 0 (recordsOf f) (k - 1) =
-          record {
-            within = omega (arith, h .counted, h .within);
-            passes = ap (lineWith d subtype) (sym (record-number f k (h .counted))) ∙ h .line;
-            before = omega (arith, h .before);
-          } in
-    line-counts f d subtype n a ∙ (nth-is-counted (lineWith d subtype) n 0 0 (recordsOf f) (k - 1) x ∙ omega (arith, h .counted))
+    line-counts f d subtype n a ∙ (nth-is-counted (lineWith d subtype) n 0 0 (recordsOf f) (k - 1) nth ∙ omega (arith, h .counted))
+  where
+    nth : NthIn (lineWith d subtype) n 0 (recordsOf f) (k - 1)
+    nth =
+        record {
+          within = omega (arith, h .counted, h .within);
+          passes = ap (lineWith d subtype) (sym (record-number f k (h .counted))) ∙ h .line;
+          before = omega (arith, h .before);
+        }
 
 -- an answer is a record or 21, by the number of the line's record
 at-line : (m k : ℕ) → orAbsent m ≡ Answer.At k → (m ≡ k) × (k ≡ 0 → ⊥)
@@ -116,6 +113,7 @@ at-none m e = go (eqb m 0) refl e
     go true q g = eqb-true m 0 q
     go false q g = let z : _≡_ {A = ℕ} 0 1 = cc in absurd (omega arith)
 
+-- the answer that an accepted flow gets
 accepted-answer : (f : List ℕ) (d subtype n : ℕ) → judged f .verdict ≡ Accepted → foundIn f d subtype n ≡ orAbsent (lineOf f d subtype n)
 unfolding foundIn
 accepted-answer f d subtype n a = rw a
@@ -123,8 +121,7 @@ accepted-answer f d subtype n a = rw a
 -- "A line is named by delega number, line subtype and its place in the section, counted from 1": a record is found exactly where it is the line so named
 pub found-exactly : (f : List ℕ) (d subtype n k : ℕ) → judged f .verdict ≡ Accepted → (foundIn f d subtype n ≡ Answer.At k) ↔ NthLine f d subtype n k
 found-exactly f d subtype n k a =
-    let w = accepted-answer f d subtype n a in
-    (
+    let w = accepted-answer f d subtype n a in (
       λ e. let x = at-line (lineOf f d subtype n) k (sym w ∙ e) in named-line f d subtype n k a (x .0) (x .1),
       λ h. w ∙ (ap orAbsent (line-of-named f d subtype n k a h) ∙ rw (ne-eqb k 0 (λ z. omega (arith, h .counted)))),
     )
@@ -132,8 +129,7 @@ found-exactly f d subtype n k a =
 -- 21, "no such delega, section or line": exactly where no record is the line so named
 pub absent-exactly : (f : List ℕ) (d subtype n : ℕ) → judged f .verdict ≡ Accepted → (foundIn f d subtype n ≡ Answer.Refused 21 0 0) ↔ ((k : ℕ) → NthLine f d subtype n k → ⊥)
 absent-exactly f d subtype n a =
-    let w = accepted-answer f d subtype n a in
-    (
+    let w = accepted-answer f d subtype n a in (
       λ e k h. omega (arith, at-none (lineOf f d subtype n) (sym w ∙ e), line-of-named f d subtype n k a h, h .counted),
       λ h. w ∙ rw (eq-eqb (lineOf f d subtype n) 0 (none h (ℕ-discrete (lineOf f d subtype n) 0))),
     )

@@ -1,15 +1,12 @@
 -- The search for a line: how far it has come, what each of its steps says of the line, and what the answer is.
-use Prim.Native.Nat.{ℕ, suc, _+_, _-_, _*_, _/_, _<_, _≤_}
-use mathlib.Core.Path.{_≡_, refl, sym, ap, _∙_}
+use Prim.Native.Nat.{ℕ, _+_, _-_, _*_, _/_, _<_, _≤_}
+use mathlib.Core.Path.{_≡_, sym, ap, _∙_}
 use mathlib.Core.Bool.{true, false, cond}
-use mathlib.Core.List.{List, [], _∷_}
+use mathlib.Core.List.{List}
 use native.Mathlib.Omega.{arith}
 use native.Mathlib.Nat.{sub-zero}
-use types.Run.{OneOf}
-use denote.Enum.Declared.{tagOf}
 use lib.ListN.{length, take, drop}
-use Rattle.layout.proofs.Kind.{the-type}
-use Rattle.layout.proofs.OtherKinds.{but-line, no-line}
+use Rattle.layout.proofs.OtherKinds.{no-line}
 use Rattle.layout.specs.declared.Kind.{Kind}
 use Rattle.layout.specs.declared.Kind.the-variants.{Head, Taxpayer, Domicile, Line, Balance, Payment, Receipt, Addressee, Tail, Unknown}
 use Rattle.layout.specs.Kinds.{sectionKind, kindIn}
@@ -20,7 +17,8 @@ use Rattle.judge.specs.declared.Verdict.the-variants.{Accepted, Refused}
 use Rattle.judge.specs.Flow.{chunks, recordsOf, restOf, judged}
 use Rattle.judge.proofs.Records.{chunks-on}
 use Rattle.find.specs.declared.Found.the-variants as Answer
-use Rattle.find.specs.Line.{isLine, lineFrom, lineOfKind, lineOf, orAbsent, foundIn}
+use Rattle.find.specs.Line.{isLine, lineFrom, lineOf, orAbsent, foundIn}
+use Rattle.find.proofs.Subtypes.{Other}
 
 -- a record adds at most one line to a section, and opens at most one delega
 lines-on : (n : ℕ) (p : Stage) (k : Kind) → p .lines ≤ n → nextStage p k .lines ≤ n + 1
@@ -90,7 +88,7 @@ module _ (f : List ℕ) (d t n : ℕ) where
   found-refused h = rw h
 
   module _ (h : judged f .verdict ≡ Accepted) where
-    pub found-no-section : (k : Kind) → k ≡ sectionKind t → OneOf but-line (tagOf the-type k) → foundIn f d t n ≡ Answer.Refused 21 0 0
+    pub found-no-section : (k : Kind) → k ≡ sectionKind t → Other k → foundIn f d t n ≡ Answer.Refused 21 0 0
     unfolding foundIn lineOf
     found-no-section k e o = rw (h, ← e, no-line 0 (λ s. sought f d s n) k o)
 

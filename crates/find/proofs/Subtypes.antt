@@ -1,6 +1,6 @@
 -- Of the lines' subtypes each names one section of the table, and a line is of the section that its subtype names.
 use Prim.Native.Nat.{ℕ, zero, suc, _+_, _-_, _<_, _≤_}
-use mathlib.Core.Path.{_≡_, refl, sym, ap, _∙_}
+use mathlib.Core.Path.{_≡_, refl, sym, ap}
 use mathlib.Core.Bool.{Bool, true, false, cond}
 use mathlib.Core.List.{List, [], _∷_}
 use mathlib.Core.Logic.{_⊎_, inl, inr}
@@ -8,7 +8,7 @@ use types.Run.{OneOf, hit, miss}
 use denote.Enum.Declared.{tagOf}
 use native.Mathlib.Omega.{arith}
 use native.Mathlib.Nat.{sub-zero}
-use borrow.Author.Tests.{eqb-true, eqb-false, eq-eqb, ne-eqb}
+use borrow.Author.Tests.{eqb-true}
 use lib.Dec.{eqb}
 use lib.ListN.{length, getD}
 use Rattle.text.specs.declared.Digits.{Digits}
@@ -19,13 +19,20 @@ use Rattle.layout.specs.declared.RecordType.the-variants.{F4, T10, T20, T40, T5
 use Rattle.layout.specs.declared.Kind.{Kind}
 use Rattle.layout.specs.declared.Kind.the-variants.{Head, Taxpayer, Domicile, Line, Balance, Payment, Receipt, Addressee, Tail, Unknown}
 use Rattle.layout.proofs.Kind.{the-type}
-use Rattle.layout.proofs.OtherKinds.{but-line, no-line}
+use Rattle.layout.proofs.OtherKinds.{but-line}
 use Rattle.layout.specs.Sections.{sections, noSection, sectionAt}
 use Rattle.layout.specs.Kinds.{ofLine, sectionKindFrom, sectionKind, paymentKind, kindOf, typeIn, subtypeIn, kindIn}
 
--- a record is a line of a section, or it is of another kind
+-- a record of this kind is no line
+abbrev pub Other : Kind → Type 0
+Other k = OneOf but-line (tagOf the-type k)
+
+pub no-other : (s : ℕ) → Other (Line s) → ⊥
+no-other s o = miss but-line 3 tt o
+
+-- it is a line of a section, or it is none
 abbrev pub LineOrOther : Kind → Type 0
-LineOrOther k = ((s : ℕ) × (k ≡ Line s)) ⊎ OneOf but-line (tagOf the-type k)
+LineOrOther k = ((s : ℕ) × (k ≡ Line s)) ⊎ Other k
 
 pub line-or-other : (k : Kind) → LineOrOther k
 line-or-other Head = inr (hit but-line 0 tt)
