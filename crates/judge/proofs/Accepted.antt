@@ -50,7 +50,7 @@ right-of name st r e =
     record { ordered = standing-pass (stands (st .stage) (kindIn r)) (typeStands (st .stage) (typeIn r)) _ (b .0); own = f .0; stored = f .1 }
 
 -- records without a fault are judged by where they end
-no-fault-closing : (name : List ℕ) (st : State) (rs : List (List ℕ)) → NoFault name st rs → judgedFrom name st rs ≡ closing (stateAfter st rs)
+pub no-fault-closing : (name : List ℕ) (st : State) (rs : List (List ℕ)) → NoFault name st rs → judgedFrom name st rs ≡ closing (stateAfter st rs)
 unfolding judgedFrom stateAfter
 no-fault-closing name st [] h = refl
 no-fault-closing name st (r ∷ rs) h = rw (h .0) (no-fault-closing name (next st r) rs (h .1))

@@ -81,10 +81,10 @@ only-cond : {n : ℕ} {x y : Outcome} (b : Bool) → Only n x → Only n y → O
 only-cond true p q = p
 only-cond false p q = q
 
--- checks whose numbers, none of which is 5, rise from lo on
+-- checks whose numbers, none of which is 5 or above 20, rise from lo on
 abbrev Rising : ℕ → List Outcome → Type 0
 Rising lo [] = Unit {0}
-Rising lo (o ∷ os) = (n : ℕ) × ((lo ≤ n) × (n ≡ 5 → ⊥)) × Only n o × Rising n os
+Rising lo (o ∷ os) = (n : ℕ) × ((lo ≤ n) × (n ≤ 20) × (n ≡ 5 → ⊥)) × Only n o × Rising n os
 
 char-only : (c : Characters) → Only 3 (charFault c)
 char-only Allowed = passed
@@ -123,7 +123,7 @@ refusalAt (Mark n c b) = n
 
 abbrev Climbs : ℕ → List Stored → Type 0
 Climbs lo [] = Unit {0}
-Climbs lo (x ∷ xs) = ((lo ≤ refusalAt x) × (refusalAt x ≡ 5 → ⊥)) × Climbs (refusalAt x) xs
+Climbs lo (x ∷ xs) = ((lo ≤ refusalAt x) × (refusalAt x ≤ 20) × (refusalAt x ≡ 5 → ⊥)) × Climbs (refusalAt x) xs
 
 stored-only : (x : Stored) (r : List ℕ) → Only (refusalAt x) (storedCheck r x)
 stored-only (Value n f v) r = only-cond (right (Value n f v) r) passed failed
@@ -200,21 +200,31 @@ least : (m lo : ℕ) (os : List Outcome) → Rising lo os → m ≤ lo → AllAt
 least m lo [] u h = tt
 least m lo (o ∷ os) u h = (at-least (omega arith) (u .2), least m (u .0) os (u .3) (omega arith))
 
-rising-first : (lo : ℕ) (os : List Outcome) {n p : ℕ} → Rising lo os → firstOf os ≡ Fault n p → AllAtLeast n os × (n ≡ 5 → ⊥)
+-- a number that a check of one record can have
+pub record Numbered (lo n : ℕ) : Type 0 where
+  pub least : lo ≤ n
+  pub most : n ≤ 20
+  pub not-five : n ≡ 5 → ⊥
+
+rising-first : (lo : ℕ) (os : List Outcome) {n p : ℕ} → Rising lo os → firstOf os ≡ Fault n p → AllAtLeast n os × Numbered lo n
 rising-first lo [] u e = let z : _≡_ {A = ℕ} 0 1 = cc in absurd (omega arith)
-rising-first lo (Pass ∷ os) u e = let a = rising-first (u .0) os (u .3) (sym (firstOf-cons Pass os) ∙ e) in ((tt, a .0), a .1)
+rising-first lo (Pass ∷ os) {n} u e =
+    let a = rising-first (u .0) os (u .3) (sym (firstOf-cons Pass os) ∙ e) in
+    let i : u .0 ≤ n = a .1 .least in
+    ((tt, a .0), record { least = omega arith; most = a .1 .most; not-five = a .1 .not-five })
 rising-first lo (Fault m q ∷ os) {n} u e =
     let f = sym (firstOf-cons (Fault m q) os) ∙ e in
     let i : m ≡ n = cc in
     let j = only-number (u .2) in
-    ((omega arith, least n (u .0) os (u .3) (omega arith)), λ k. u .1 .1 (omega arith))
+    ((omega arith, least n (u .0) os (u .3) (omega arith)), record { least = omega arith; most = omega arith; not-five = λ k. u .1 .2 (omega arith) })
 
 module _ (name : List ℕ) (st : State) (r : List ℕ) {n p : ℕ} (e : fault name st r ≡ Fault n p) where
-  smallest : AllAtLeast n (checksOf name st r) × (n ≡ 5 → ⊥)
+  smallest : AllAtLeast n (checksOf name st r) × Numbered 3 n
   smallest = rising-first 3 (checksOf name st r) (checks-rising name st r) (sym (fault-is-first name st r) ∙ e)
 
-  pub fault-is-not-five : n ≡ 5 → ⊥
-  fault-is-not-five = smallest .1
+  -- a record's fault is one of 3 to 20, and not 5, which is told behind the last record
+  pub fault-number : Numbered 3 n
+  fault-number = smallest .1
 
   -- "within a record the checks in the order of their numbers": no check with a smaller number than the fault's fails
   pub no-smaller-number-fails : AllAtLeast n (checksOf name st r)

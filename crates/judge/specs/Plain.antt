@@ -26,6 +26,7 @@ use Rattle.rules.specs.Amounts.{lineFault}
 use Rattle.rules.specs.Stored.{Stored, storedOf, right, faultOf}
 use Rattle.rules.specs.Checks.{charFault, orBad, numberFault, ownChecks, fault}
 use Rattle.rules.specs.Step.{next}
+use Rattle.judge.specs.Refusal.{Refusal, refusal}
 use Rattle.judge.specs.Flow.{recordsOf, headNameOf}
 
 -- a number of each record, added up over the records
@@ -111,12 +112,18 @@ pub record FirstFault (name : List ℕ) (st : State) (rs : List (List ℕ)) (n k
   pub passes : NoFault name st before
   pub fails : fault name (stateAfter st before) here ≡ Fault n p
 
--- no record has a fault, the last is not EF, and the record told is that behind the last
-pub record Unfinished (s : List ℕ) (r p : ℕ) : Type 0 where
+-- no record has a fault, and the last is not EF
+pub record Unfinished (s : List ℕ) : Type 0 where
   pub passes : NoFault (headNameOf s) startState (recordsOf s)
   pub ends : kindIn (lastOf [] (recordsOf s)) ≡ Tail → ⊥
-  pub counted : r ≡ length (recordsOf s) + 1
-  pub nowhere : p ≡ 0
+
+-- why a flow is refused with this number, record and position: 1 and 2 by its length; the first fault in the order of the records; 5 behind the last record
+pub data RefusedFor (s : List ℕ) (x : Refusal) : Type 0 where
+  LongFlow : 65520 < length s → x ≡ refusal 1 0 0 → RefusedFor s x
+  NoBytes : length s ≡ 0 → x ≡ refusal 2 0 0 → RefusedFor s x
+  RaggedFlow : length s ≤ 65520 → (length s % 120 ≡ 0 → ⊥) → x ≡ refusal 2 0 0 → RefusedFor s x
+  FaultAt : Whole s → FirstFault (headNameOf s) startState (recordsOf s) (x .number) (x .«record») (x .position) → RefusedFor s x
+  NoTail : Whole s → Unfinished s → x ≡ refusal 5 (length (recordsOf s) + 1) 0 → RefusedFor s x
 
 -- 4: a record of a type and a kind may stand at a stage
 abbrev pub orderCheck : Stage → RecordType → Kind → Outcome
