@@ -78,7 +78,7 @@ balance-stands p t e = go (eqb (p .phase) afterLine) refl e
 abbrev pub lineIn : ℕ → ℕ → Kind → ℕ → Bool
 lineIn d s k v = ofLine false (λ t. cond (eqb t s) (eqb v d) false) k
 
--- c lines of section s in delega d came before stage p of delega e
+-- c lines of section s in delega d came before stage p of delega e. Of a section that is closed nothing is said: no line of it can follow in its delega
 pub record SoFar (d s : ℕ) (p : Stage) (e c : ℕ) : Type 0 where
   pub not-yet : e < d → c ≡ 0
   pub no-section-yet : e ≡ d → p .phase ≤ afterDomicile → c ≡ 0
@@ -86,6 +86,7 @@ pub record SoFar (d s : ℕ) (p : Stage) (e c : ℕ) : Type 0 where
   pub its-section : e ≡ d → p .phase ≡ afterLine → p .section ≡ s → c ≡ p .lines
   pub no-lines : (p .phase ≡ afterLine → ⊥) → p .lines ≡ 0
 
+-- before the first record
 pub so-far-starts : (d s : ℕ) → SoFar d s (stageAt atStart 0 0) 0 0
 so-far-starts d s = record { not-yet = λ h. refl; no-section-yet = λ h i. refl; earlier-section = λ h i j l. refl; its-section = λ h i j. refl; no-lines = λ h. refl }
 
@@ -132,6 +133,7 @@ module _ (d s : ℕ) (p : Stage) (e c : ℕ) (h : SoFar d s p e c) where
       go (yes i) = h .no-section-yet i b
       go (no i) = h .not-yet (omega arith)
 
+  -- a line of section t, which carries the number of the open delega
   a-line : (t v : ℕ) → LineStands p t → v ≡ e → SoFar d s (stageAt afterLine t (p .lines + 1)) e (c + oneIf (cond (eqb t s) (eqb v d) false))
   a-line t v o n =
       record {
@@ -155,6 +157,7 @@ module _ (d s : ℕ) (p : Stage) (e c : ℕ) (h : SoFar d s p e c) where
       its-own : t ≡ s → v ≡ d → oneIf (cond (eqb t s) (eqb v d) false) ≡ 1
       its-own x y = rw (eq-eqb t s x, eq-eqb v d y)
 
+  -- a balance, which closes section t
   a-balance : (t : ℕ) → p .phase ≡ afterLine → t ≡ p .section → SoFar d s (stageAt afterBalance t 0) e (c + 0)
   a-balance t x y =
       record {
@@ -165,7 +168,7 @@ module _ (d s : ℕ) (p : Stage) (e c : ℕ) (h : SoFar d s p e c) where
         no-lines = λ i. refl;
       }
 
-  -- a record that may stand here and carries the number that it should
+  -- any record that may stand here and carries the number that it should
   step : (k : Kind) (v : ℕ) → stands p k ≡ true → numberFault e k v ≡ Pass → SoFar d s (nextStage p k) (nextDeleghe e k) (c + oneIf (lineIn d s k v))
   unfolding stands numberFault
   step Head v o n = let x = eqb-true (p .phase) atStart o in begins e _ (omega arith) (none-before (omega arith))
@@ -179,7 +182,7 @@ module _ (d s : ℕ) (p : Stage) (e c : ℕ) (h : SoFar d s p e c) where
   step Tail v o n = ends _ (omega arith)
   step Unknown v o n = absurd (false≢true o)
 
-  -- a record is the n-th line of the section exactly where it is a line of it with n - 1 before it
+  -- by the count that the order of records keeps, a line is the n-th of its section exactly where n - 1 came before it
   line-nth : (n t v : ℕ) → LineStands p t → v ≡ e → cond (eqb t s) (cond (eqb e d) (eqb (p .lines + 1) n) false) false ≡ cond (cond (eqb t s) (eqb v d) false) (eqb (c + 1) n) false
   line-nth n t v o m = rw m (go (eqb t s) (eqb e d) refl refl)
     where

@@ -1,4 +1,4 @@
--- Of the lines' subtypes each names one section of the table, and a line is of the section that its subtype names.
+-- A record is a line or it is none; each subtype of lines names one section of the table, and a line is of a section of the table.
 use Prim.Native.Nat.{ℕ, zero, suc, _+_, _-_, _<_, _≤_}
 use mathlib.Core.Path.{_≡_, refl, sym, ap}
 use mathlib.Core.Bool.{Bool, true, false, cond}
