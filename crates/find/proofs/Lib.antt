@@ -1,3 +1,7 @@
+pub mod Subtypes
+pub mod NthIn
+pub mod LinesSoFar
+pub mod NamedLine
 pub mod Search
 pub mod FoundPart
-pub mod OneLine
+pub mod OneAnswer

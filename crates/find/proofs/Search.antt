@@ -1,15 +1,12 @@
 -- The search for a line: how far it has come, what each of its steps says of the line, and what the answer is.
-use Prim.Native.Nat.{ℕ, suc, _+_, _-_, _*_, _/_, _<_, _≤_}
-use mathlib.Core.Path.{_≡_, refl, sym, ap, _∙_}
+use Prim.Native.Nat.{ℕ, _+_, _-_, _*_, _/_, _<_, _≤_}
+use mathlib.Core.Path.{_≡_, sym, ap, _∙_}
 use mathlib.Core.Bool.{true, false, cond}
-use mathlib.Core.List.{List, [], _∷_}
+use mathlib.Core.List.{List}
 use native.Mathlib.Omega.{arith}
 use native.Mathlib.Nat.{sub-zero}
-use types.Run.{OneOf, miss}
-use denote.Enum.Declared.{tagOf}
 use lib.ListN.{length, take, drop}
-use lib.Seq.{drop-drop}
-use Rattle.layout.proofs.Kind.{the-type}
+use Rattle.layout.proofs.OtherKinds.{no-line}
 use Rattle.layout.specs.declared.Kind.{Kind}
 use Rattle.layout.specs.declared.Kind.the-variants.{Head, Taxpayer, Domicile, Line, Balance, Payment, Receipt, Addressee, Tail, Unknown}
 use Rattle.layout.specs.Kinds.{sectionKind, kindIn}
@@ -18,39 +15,10 @@ use Rattle.rules.specs.State.{stageAt, atStart}
 use Rattle.rules.specs.Step.{nextStage, nextDeleghe}
 use Rattle.judge.specs.declared.Verdict.the-variants.{Accepted, Refused}
 use Rattle.judge.specs.Flow.{chunks, recordsOf, restOf, judged}
+use Rattle.judge.proofs.Records.{chunks-on}
 use Rattle.find.specs.declared.Found.the-variants as Answer
-use Rattle.find.specs.Line.{isLine, lineFrom, lineOfKind, lineOf, orAbsent, foundIn}
-
--- the tags of the kinds that are no line
-abbrev others : List ℕ
-others = 0 ∷ 1 ∷ 2 ∷ 4 ∷ 5 ∷ 6 ∷ 7 ∷ 8 ∷ 9 ∷ []
-
-abbrev NoLine : Kind → Type 0
-NoLine k = OneOf others (tagOf the-type k)
-
-pub no-line : (d s n : ℕ) (p : Stage) (e : ℕ) (k : Kind) → NoLine k → isLine d s n p e k ≡ false
-no-line d s n p e Head t = refl
-no-line d s n p e Taxpayer t = refl
-no-line d s n p e Domicile t = refl
-no-line d s n p e (Line x) t = absurd (miss others 3 tt t)
-no-line d s n p e (Balance x) t = refl
-no-line d s n p e Payment t = refl
-no-line d s n p e Receipt t = refl
-no-line d s n p e Addressee t = refl
-no-line d s n p e Tail t = refl
-no-line d s n p e Unknown t = refl
-
-no-section : (d n : ℕ) (f : List ℕ) (k : Kind) → NoLine k → lineOfKind d k n f ≡ 0
-no-section d n f Head t = refl
-no-section d n f Taxpayer t = refl
-no-section d n f Domicile t = refl
-no-section d n f (Line x) t = absurd (miss others 3 tt t)
-no-section d n f (Balance x) t = refl
-no-section d n f Payment t = refl
-no-section d n f Receipt t = refl
-no-section d n f Addressee t = refl
-no-section d n f Tail t = refl
-no-section d n f Unknown t = refl
+use Rattle.find.specs.Line.{isLine, lineFrom, lineOf, orAbsent, foundIn}
+use Rattle.find.proofs.Subtypes.{Other}
 
 -- a record adds at most one line to a section, and opens at most one delega
 lines-on : (n : ℕ) (p : Stage) (k : Kind) → p .lines ≤ n → nextStage p k .lines ≤ n + 1
@@ -91,10 +59,6 @@ pub record Searching (f : List ℕ) (d s n : ℕ) (p : Stage) (e k : ℕ) : Type
 pub search-starts : (f : List ℕ) (d s n : ℕ) → Searching f d s n (stageAt atStart 0 0) 0 0
 search-starts f d s n = record { ahead = omega arith; rest = rw sub-zero; lines-below = omega arith; deleghe-below = omega arith }
 
-chunks-on : (m n k : ℕ) (s : List ℕ) → m ≡ suc n → chunks m (drop (k * 120) s) ≡ take 120 (drop (k * 120) s) ∷ chunks n (drop ((k + 1) * 120) s)
-unfolding chunks
-chunks-on m n k s e = rw (e, drop-drop 120 (k * 120) s) (ap (λ (j : ℕ). take 120 (drop (k * 120) s) ∷ chunks n (drop j s)) (let h : k * 120 + 120 ≡ (k + 1) * 120 = omega arith in h))
-
 module _ (f : List ℕ) (d s n : ℕ) (p : Stage) (e k : ℕ) (g : Searching f d s n p e k) where
   -- no record is left
   pub search-ends : length f / 120 ≤ k → sought f d s n ≡ 0
@@ -124,9 +88,9 @@ module _ (f : List ℕ) (d t n : ℕ) where
   found-refused h = rw h
 
   module _ (h : judged f .verdict ≡ Accepted) where
-    pub found-no-section : (k : Kind) → k ≡ sectionKind t → NoLine k → foundIn f d t n ≡ Answer.Refused 21 0 0
+    pub found-no-section : (k : Kind) → k ≡ sectionKind t → Other k → foundIn f d t n ≡ Answer.Refused 21 0 0
     unfolding foundIn lineOf
-    found-no-section k e o = rw (h, ← e, no-section d n f k o)
+    found-no-section k e o = rw (h, ← e, no-line 0 (λ s. sought f d s n) k o)
 
     pub found-sought : (s : ℕ) → sectionKind t ≡ Line s → foundIn f d t n ≡ orAbsent (sought f d s n)
     unfolding foundIn lineOf

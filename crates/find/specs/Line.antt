@@ -1,6 +1,6 @@
 -- "A line is named by delega number, line subtype and its place in the section, counted from 1."
 use Prim.Native.Nat.{ℕ, _+_}
-use mathlib.Core.Bool.{Bool, true, false, cond}
+use mathlib.Core.Bool.{Bool, false, cond}
 use mathlib.Core.List.{List, [], _∷_}
 use lib.Dec.{eqb}
 use Rattle.layout.specs.declared.Kind.{Kind}
@@ -8,7 +8,7 @@ use Rattle.layout.specs.Kinds.{ofLine, sectionKind, kindIn}
 use Rattle.rules.specs.declared.Stage.{Stage}
 use Rattle.rules.specs.State.{stageAt, atStart}
 use Rattle.rules.specs.Step.{nextStage, nextDeleghe}
-use Rattle.judge.specs.Refusal.{Refusal, refusal, noRefusal, refusalOf, judgedFirst}
+use Rattle.judge.specs.Refusal.{Refusal, refusal, noRefusal, judgedFirst}
 use Rattle.judge.specs.Flow.{recordsOf, judged}
 use Rattle.find.specs.declared.Found.{Found}
 use Rattle.find.specs.declared.Found.the-variants as Answer

@@ -1,6 +1,6 @@
 // One line of a flow, named by its delega's number, its subtype and its place in the section.
 ghost use mathlib.Core.Path.{_≡_};
-ghost use Prim.Native.Nat.{_+_, _<_, _≤_};
+ghost use Prim.Native.Nat.{_<_, _≤_};
 ghost use lib.ListN.{length};
 ghost use Rattle.rules.specs.State.{stageAt, atStart};
 ghost use Rattle.judge.specs.Flow.{recordsOf};
@@ -16,12 +16,6 @@ use rules::Stage;
 pub enum Found {
     At(usize),
     Refused(u64, usize, usize),
-}
-
-// A found line: its record as a part of the caller's own buffer, or an empty part with a refusal, beside the answer.
-pub struct FoundLine<'a> {
-    pub part: &'a [u8],
-    pub answer: Found,
 }
 
 // A record of this kind, at this stage of the delega opened last, is the line that is asked for.
@@ -94,16 +88,4 @@ pub fn part_of(flow: &[u8], found: Found) -> &[u8]
         Found::At(k) => judge::nth_record(flow, k),
         Found::Refused(_, _, _) => &flow[0..0],
     }
-}
-
-// The line's record and the answer, in one call.
-pub fn line<'a>(flow: &'a [u8], delega: u64, subtype: u64, nth: u64) -> FoundLine<'a>
-    ensures { λ r. ⌜ (r .answer ≡ foundIn (now (flow .entry)) delega subtype nth)
-        × (now (r .part) ≡ partOf (now (flow .entry)) (foundIn (now (flow .entry)) delega subtype nth))
-        × (r .part .ptr .0 ≡ flow .entry .ptr .0)
-        × (r .part .ptr .1 ≡ flow .entry .ptr .1 + partStart (now (flow .entry)) (foundIn (now (flow .entry)) delega subtype nth)) ⌝ }
-{
-    let answer = find(flow, delega, subtype, nth);
-    let part = part_of(flow, answer);
-    FoundLine { part, answer }
 }

@@ -1,5 +1,5 @@
 -- `find::is_line` meets its contract: each return is one way through the tests of the definition.
-use Rattle.find.proofs.Search.{no-line}
+use Rattle.layout.proofs.OtherKinds.{no-line}
 use borrow.Author.Tests.{eq-eqb, ne-eqb}
 use mathlib.Core.Path.{sym}
 use borrow.Author.Needs.{needs}
@@ -10,7 +10,7 @@ enum-known-kind : tie.Need-enum-known-kind
 enum-known-kind c = search needs
 
 returns : tie.Need-returns
-returns c = let a = c .before .args in sym (no-line (a .delega) (a .section) (a .nth) (a .at) (a .opened) (a .kind) (c .match .keys2))
+returns c = sym (no-line _ _ (c .before .args .kind) (c .match .keys2))
 
 returns-2 : tie.Need-returns-2
 returns-2 c = rw (c .before .before .kind .given .1, ne-eqb _ _ (c .if1 .taken))
