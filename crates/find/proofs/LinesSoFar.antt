@@ -9,43 +9,23 @@ use native.Mathlib.Omega.{arith}
 use native.Mathlib.Decide.{ℕ-discrete}
 use borrow.Author.Tests.{ltb-true, eqb-true, eq-eqb, ne-eqb}
 use lib.Dec.{eqb, ltb}
-use Rattle.text.specs.Characters.{firstBad}
 use Rattle.layout.specs.declared.Kind.{Kind}
 use Rattle.layout.specs.declared.Kind.the-variants.{Head, Taxpayer, Domicile, Line, Balance, Payment, Receipt, Addressee, Tail, Unknown}
-use Rattle.layout.specs.Kinds.{ofLine, typeIn, kindIn}
-use Rattle.layout.specs.Fields.{delegaNumber, fieldsOf, valueOf}
+use Rattle.layout.specs.Kinds.{ofLine, kindIn}
+use Rattle.layout.specs.Fields.{delegaNumber, valueOf}
 use Rattle.layout.proofs.OtherKinds.{no-line}
-use Rattle.rules.specs.declared.Outcome.the-variants.{Pass, Fault}
+use Rattle.rules.specs.declared.Outcome.the-variants.{Pass}
 use Rattle.rules.specs.declared.Stage.{Stage}
 use Rattle.rules.specs.declared.State.{State}
 use Rattle.rules.specs.State.{stageAt, atStart, afterTaxpayer, afterDomicile, afterLine, afterBalance}
-use Rattle.rules.specs.Order.{stands, standing}
-use Rattle.rules.specs.Checks.{charFault, badFields, carried, numberFault, fault}
+use Rattle.rules.specs.Order.{stands}
+use Rattle.rules.specs.Checks.{numberFault}
 use Rattle.rules.specs.Step.{nextStage, nextDeleghe, next}
-use Rattle.rules.proofs.FirstFault.{first-pass}
 use Rattle.judge.specs.Plain.{NoFault}
-use Rattle.judge.proofs.Accepted.{right-of}
+use Rattle.judge.proofs.Accepted.{right-of, carried-number}
 use Rattle.find.specs.Line.{isLine, lineFrom}
 use Rattle.find.proofs.Subtypes.{LineOrOther, line-or-other}
 use Rattle.find.proofs.NthIn.{oneIf, countTo}
-
--- check 8 passes only where the number is the one that is expected
-carried-number : (d v : ℕ) → carried d v ≡ Pass → v ≡ d
-unfolding carried
-carried-number d v e = go (eqb v d) refl e
-  where
-    go : (b : Bool) → eqb v d ≡ b → cond b Pass (Fault 8 4) ≡ Pass → v ≡ d
-    go true q f = eqb-true v d q
-    go false q f = let z : _≡_ {A = ℕ} 0 1 = cc in absurd (omega arith)
-
--- a record that passes carries the number that it should
-numbered : (name : List ℕ) (st : State) (r : List ℕ) → fault name st r ≡ Pass → numberFault (st .deleghe) (kindIn r) (valueOf r delegaNumber) ≡ Pass
-unfolding fault
-numbered name st r e =
-    let a = first-pass (charFault (firstBad r)) _ e in
-    let b = first-pass (standing (st .stage) (typeIn r) (kindIn r)) _ (a .1) in
-    let c = first-pass (badFields (fieldsOf (kindIn r)) r) _ (b .1) in
-    first-pass (numberFault (st .deleghe) (kindIn r) (valueOf r delegaNumber)) _ (c .1) .0
 
 -- where a line of section t may stand: first in the delega, behind a line of its section, or behind the balance of a section before it
 data LineStands (p : Stage) (t : ℕ) : Type 0 where
@@ -208,5 +188,5 @@ module _ (name : List ℕ) (d s n : ℕ) (P : List ℕ → Bool) (tells : (r : L
   search-counts st c k (r ∷ rs) h f =
       let v = valueOf r delegaNumber in
       let o = right-of name st r (f .0) .ordered in
-      let m = numbered name st r (f .0) in
+      let m = right-of name st r (f .0) .numbered in
       rw (tells r, is-nth d s (st .stage) (st .deleghe) c h n (kindIn r) v o m, search-counts (next st r) (c + oneIf (lineIn d s (kindIn r) v)) (k + 1) rs (step d s (st .stage) (st .deleghe) c h (kindIn r) v o m) (f .1))

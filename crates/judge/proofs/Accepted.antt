@@ -20,17 +20,18 @@ use Rattle.rules.specs.declared.State.{State}
 use Rattle.rules.specs.State.{startState, afterTail}
 use Rattle.rules.specs.Order.{first, stands, typeStands, standing}
 use Rattle.rules.specs.Stored.{storedOf, wrong}
-use Rattle.rules.specs.Checks.{charFault, badFields, numberFault, ownFault, fault}
+use Rattle.rules.specs.Checks.{charFault, badFields, carried, numberFault, ownFault, fault}
 use Rattle.rules.specs.Step.{nextStage, next}
 use Rattle.judge.specs.declared.Verdict.the-variants.{Accepted}
 use Rattle.judge.specs.declared.Judgement.{Judgement}
 use Rattle.judge.specs.Flow.{refusedWith, acceptedWith, closing, after, judgedFrom, recordsOf, headNameOf, judged}
-use Rattle.rules.proofs.FirstFault.{first-pass}
+use Rattle.rules.proofs.FirstFault.{first-pass, five-pass}
 use Rattle.judge.specs.Plain.{lastOf, stateAfter, NoFault, Whole, Sound}
 
--- a record that passes may stand where it stands, and breaks no rule of its own and of its stored fields
+-- a record that passes may stand where it stands, carries the number that it should, and breaks no rule of its own and of its stored fields
 pub record Right (name : List ℕ) (st : State) (r : List ℕ) : Type 0 where
   pub ordered : stands (st .stage) (kindIn r) ≡ true
+  pub numbered : numberFault (st .deleghe) (kindIn r) (valueOf r delegaNumber) ≡ Pass
   pub own : ownFault name st (kindIn r) r ≡ Pass
   pub stored : wrong (storedOf st (kindIn r)) r ≡ Pass
 
@@ -42,12 +43,23 @@ standing-pass false false o e = cc
 pub right-of : (name : List ℕ) (st : State) (r : List ℕ) → fault name st r ≡ Pass → Right name st r
 unfolding fault standing
 right-of name st r e =
-    let a = first-pass (charFault (firstBad r)) _ e in
-    let b = first-pass (standing (st .stage) (typeIn r) (kindIn r)) _ (a .1) in
-    let c = first-pass (badFields (fieldsOf (kindIn r)) r) _ (b .1) in
-    let d = first-pass (numberFault (st .deleghe) (kindIn r) (valueOf r delegaNumber)) _ (c .1) in
-    let f = first-pass (ownFault name st (kindIn r) r) _ (d .1) in
-    record { ordered = standing-pass (stands (st .stage) (kindIn r)) (typeStands (st .stage) (typeIn r)) _ (b .0); own = f .0; stored = f .1 }
+    let a = five-pass (charFault (firstBad r)) (standing (st .stage) (typeIn r) (kindIn r)) (badFields (fieldsOf (kindIn r)) r) (numberFault (st .deleghe) (kindIn r) (valueOf r delegaNumber)) _ e in
+    let f = first-pass (ownFault name st (kindIn r) r) _ (a .4) in
+    record {
+      ordered = standing-pass (stands (st .stage) (kindIn r)) (typeStands (st .stage) (typeIn r)) _ (a .1);
+      numbered = a .3;
+      own = f .0;
+      stored = f .1;
+    }
+
+-- check 8 passes only where the number is the one that is expected
+pub carried-number : (d v : ℕ) → carried d v ≡ Pass → v ≡ d
+unfolding carried
+carried-number d v e = go (eqb v d) refl e
+  where
+    go : (b : Bool) → eqb v d ≡ b → cond b Pass (Fault 8 4) ≡ Pass → v ≡ d
+    go true q f = eqb-true v d q
+    go false q f = let z : _≡_ {A = ℕ} 0 1 = cc in absurd (omega arith)
 
 -- records without a fault are judged by where they end
 pub no-fault-closing : (name : List ℕ) (st : State) (rs : List (List ℕ)) → NoFault name st rs → judgedFrom name st rs ≡ closing (stateAfter st rs)
