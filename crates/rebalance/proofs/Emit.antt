@@ -14,10 +14,11 @@ use Rattle.layout.specs.Fields.{delegaNumber, fieldsOf, valueOf}
 use Rattle.rules.specs.declared.State.{State}
 use Rattle.rules.specs.declared.Outcome.{Outcome}
 use Rattle.rules.specs.declared.Outcome.the-variants.{Pass, Fault}
-use Rattle.rules.specs.Order.{first, stands, full, typeStands, standing}
+use Rattle.rules.specs.Order.{stands, full, typeStands, standing}
 use Rattle.rules.specs.Stored.{Stored, storedOf, wrong}
 use Rattle.rules.specs.Checks.{charFault, orBad, badFields, numberFault, tailName, ownFault, fault}
 use Rattle.rules.specs.Step.{lineSums, next}
+use Rattle.rules.proofs.FirstFault.{first-pass, five-pass}
 use Rattle.rebalance.specs.Rebalance.{putAll, emit, fitsAll, clear, keptFields, keptFault}
 use Rattle.rebalance.proofs.Written.{byte-of, laid, length-putAll, putAll-clear, Holds, putAll-holds, holds-same, putAll-allowed, valueFields, holds-numbers, holds-pass, pass-fits, pass-holds}
 use Rattle.rebalance.proofs.Columns.{Storing, plain, balance, payment, tail, storing, Columns, columns, printable-stored, fields-same}
@@ -44,20 +45,6 @@ kept tail c name r part = record { fields = refl; own = ap (tailName name) (part
 allowed-of : (c : Characters) → charFault c ≡ Pass → c ≡ Allowed
 allowed-of Allowed e = refl
 allowed-of (BadAt i) e = cc
-
--- Checks that pass together pass each.
-first-pass : (a b : Outcome) → first a b ≡ Pass → (a ≡ Pass) × (b ≡ Pass)
-first-pass Pass b e = (refl, e)
-first-pass (Fault n p) b e = (e, cc)
-
--- So do five.
-five-pass : (a b c d e : Outcome) → first a (first b (first c (first d e))) ≡ Pass → (a ≡ Pass) × (b ≡ Pass) × (c ≡ Pass) × (d ≡ Pass) × (e ≡ Pass)
-five-pass a b c d e h =
-    let w = first-pass a (first b (first c (first d e))) h in
-    let x = first-pass b (first c (first d e)) (w .1) in
-    let y = first-pass c (first d e) (x .1) in
-    let z = first-pass d e (y .1) in
-    (w .0, x .0, y .0, z .0, z .1)
 
 -- The checks that rebalancing leaves alone, one by one.
 kept-parts : (name : List ℕ) (st : State) (r : List ℕ) → keptFault name st r ≡ Pass →
