@@ -10,18 +10,17 @@ use lib.ListN.{length, length-set}
 use Rattle.text.specs.Characters.{firstBad}
 use Rattle.layout.specs.declared.Kind.{Kind}
 use Rattle.layout.specs.declared.Kind.the-variants.{Head, Taxpayer, Domicile, Line, Balance, Payment, Receipt, Addressee, Tail, Unknown}
-use Rattle.layout.specs.Kinds.{typeIn, kindIn}
+use Rattle.layout.specs.Kinds.{ofLine, ofPayment, typeIn, kindIn}
 use Rattle.layout.specs.Fields.{delegaNumber, fieldsOf, valueOf}
 use Rattle.rules.specs.declared.Sums.{Sums}
 use Rattle.rules.specs.declared.DelegaSums.{DelegaSums}
-use Rattle.rules.specs.declared.Outcome.{Outcome}
 use Rattle.rules.specs.declared.Outcome.the-variants.{Pass, Fault}
 use Rattle.rules.specs.declared.State.{State}
 use Rattle.rules.specs.State.{zeroDelega, startState, atStart, afterHead, afterTaxpayer, afterDomicile, afterLine, afterBalance, afterPayment, afterReceipt, afterAddressee}
-use Rattle.rules.specs.Order.{first, among, stands, standing}
+use Rattle.rules.specs.Order.{among, stands, standing}
 use Rattle.rules.specs.Checks.{charFault, badFields, carried, numberFault, fault}
 use Rattle.rules.specs.Step.{addedAt, lineSums, nextOf, next}
-use Rattle.judge.specs.Plain.{ofLine, ofPayment}
+use Rattle.rules.proofs.FirstFault.{first-pass}
 use Rattle.judge.proofs.Accepted.{right-of}
 use Rattle.delega.specs.OneDelega.{closesAt}
 
@@ -42,7 +41,7 @@ between-start = record { counted = refl; settled = λ z. refl; five = refl }
 
 -- a record of this kind is neither a line nor a 50-01
 abbrev pub Quiet : Kind → Type 0
-Quiet k = (f : ℕ → ℕ) (m d n : ℕ) → (ofLine f k ≡ 0) × (ofPayment m k ≡ 0) × (closesAt d n k ≡ false)
+Quiet k = (f : ℕ → ℕ) (m d n : ℕ) → (ofLine 0 f k ≡ 0) × (ofPayment 0 m k ≡ 0) × (closesAt d n k ≡ false)
 
 -- a record of kind k that carries v, after n deleghe: a line or the 50-01 of the open delega, whose number is n + 1, or neither
 pub data Move (n : ℕ) (st : State) (k : Kind) (v : ℕ) (on : State) : Type 0 where
@@ -90,11 +89,6 @@ carried-number d v e = go (eqb v d) refl e
     go : (b : Bool) → eqb v d ≡ b → cond b Pass (Fault 8 4) ≡ Pass → v ≡ d
     go true q f = eqb-true v d q
     go false q f = let z : _≡_ {A = ℕ} 0 1 = cc in absurd (omega arith)
-
--- of two outcomes none is a fault where the first fault is none
-first-pass : (a o : Outcome) → first a o ≡ Pass → (a ≡ Pass) × (o ≡ Pass)
-first-pass Pass o e = (refl, e)
-first-pass (Fault n p) o e = (e, cc)
 
 -- a record that passes carries the number that it should
 numbered : (name : List ℕ) (st : State) (r : List ℕ) → fault name st r ≡ Pass → numberFault (st .deleghe) (kindIn r) (valueOf r delegaNumber) ≡ Pass

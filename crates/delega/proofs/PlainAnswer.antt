@@ -10,7 +10,7 @@ use lib.Dec.{eqb}
 use lib.ListN.{length, getD, replicate}
 use lib.Seq.{getD-set-same, getD-set-other}
 use Rattle.layout.specs.declared.Kind.the-variants.{Line, Payment}
-use Rattle.layout.specs.Kinds.{kindIn}
+use Rattle.layout.specs.Kinds.{ofLine, ofPayment, kindIn}
 use Rattle.layout.specs.Fields.{finalBalance, valueOf}
 use Rattle.rules.specs.declared.Sums.{Sums}
 use Rattle.rules.specs.declared.DelegaSums.{DelegaSums}
@@ -22,7 +22,7 @@ use Rattle.rules.specs.Checks.{negativeFault}
 use Rattle.rules.specs.Step.{added, addedAt, lineSums}
 use Rattle.judge.specs.declared.Verdict.the-variants.{Accepted}
 use Rattle.judge.specs.Flow.{recordsOf, headNameOf, judged}
-use Rattle.judge.specs.Plain.{ofLine, ofPayment, Side, Debit, Credit, sideOf, columnOf}
+use Rattle.judge.specs.Plain.{Side, Debit, Credit, sideOf, columnOf}
 use Rattle.judge.proofs.Accepted.{Right}
 use Rattle.delega.specs.OneDelega.{answered, delegaOf}
 use Rattle.delega.specs.PlainDelega.{sectionOf, linesOf, finalsOf, paymentsOf}
@@ -84,8 +84,8 @@ module _ (name : List ℕ) (st : State) (r : List ℕ) (k : kindIn r ≡ Payment
 module _ (s : List ℕ) (d : ℕ) (e : judged s .verdict ≡ Accepted) (lo : 1 ≤ d) (hi : d ≤ judged s .summary .deleghe) where
   -- what a 50-01 adds: its final balance, and 1
   abbrev ofFinal : Side → List ℕ → ℕ
-  ofFinal Debit r = ofPayment (valueOf r finalBalance) (kindIn r)
-  ofFinal Credit r = ofPayment 1 (kindIn r)
+  ofFinal Debit r = ofPayment 0 (valueOf r finalBalance) (kindIn r)
+  ofFinal Credit r = ofPayment 0 1 (kindIn r)
 
   -- the answer by the delega's 50-01
   by-payment : (delegaOf s d .verdict ≡ Accepted) × (delegaOf s d .balance ≡ finalsOf d (recordsOf s)) × (paymentsOf d (recordsOf s) ≡ 1)
@@ -119,13 +119,13 @@ module _ (s : List ℕ) (d : ℕ) (e : judged s .verdict ≡ Accepted) (lo : 1 �
   -- "all its debits less all its credits", over the lines that carry its number
   pub delega-balance-lines : delegaOf s d .balance + linesOf d Credit (recordsOf s) ≡ linesOf d Debit (recordsOf s)
   unfolding finalOf
-  delega-balance-lines = own-records s d (λ x t. sideOf x (t .all)) (λ x r. ofLine (λ i. valueOf r (columnOf x i)) (kindIn r)) (λ a t u. a .balance + u ≡ t) (λ x r q. q _ 0 0 0 .0) none-side line pay e lo hi
+  delega-balance-lines = own-records s d (λ x t. sideOf x (t .all)) (λ x r. ofLine 0 (λ i. valueOf r (columnOf x i)) (kindIn r)) (λ a t u. a .balance + u ≡ t) (λ x r q. q _ 0 0 0 .0) none-side line pay e lo hi
     where
-      line : (x : Side) (t : DelegaSums) (r : List ℕ) (i : ℕ) → kindIn r ≡ Line i → length (t .sections) ≡ 5 → sideOf x (withLine t i r .all) ≡ sideOf x (t .all) + ofLine (λ j. valueOf r (columnOf x j)) (kindIn r)
+      line : (x : Side) (t : DelegaSums) (r : List ℕ) (i : ℕ) → kindIn r ≡ Line i → length (t .sections) ≡ 5 → sideOf x (withLine t i r .all) ≡ sideOf x (t .all) + ofLine 0 (λ j. valueOf r (columnOf x j)) (kindIn r)
       line x t r i k l = rw k (omega (arith, side-added x (t .all) (lineSums (Line i) r), side-line x i r))
 
       pay : (st : State) (r : List ℕ) → kindIn r ≡ Payment → Right (headNameOf s) st r → (t u : ℕ) →
-          t ≡ st .money .delega .all .debit + ofLine (λ i. valueOf r (columnOf Debit i)) (kindIn r) → u ≡ st .money .delega .all .credit + ofLine (λ i. valueOf r (columnOf Credit i)) (kindIn r) →
+          t ≡ st .money .delega .all .debit + ofLine 0 (λ i. valueOf r (columnOf Debit i)) (kindIn r) → u ≡ st .money .delega .all .credit + ofLine 0 (λ i. valueOf r (columnOf Credit i)) (kindIn r) →
           answered st .balance + u ≡ t
       pay st r k p t u a b = omega (arith, rw k at a, rw k at b, not-negative (headNameOf s) st r k p)
 
@@ -133,15 +133,15 @@ module _ (s : List ℕ) (d : ℕ) (e : judged s .verdict ≡ Accepted) (lo : 1 �
   by-section : (i : ℕ) → i < 5 →
       (getD (delegaOf s d .sums) i noSums .debit ≡ sectionOf d Debit i (recordsOf s)) × (getD (delegaOf s d .sums) i noSums .credit ≡ sectionOf d Credit i (recordsOf s))
   by-section i h =
-      own-records s d (λ x t. sideOf x (getD (t .sections) i noSums)) (λ x r. ofLine (ofSection x i r) (kindIn r)) (λ a t u. (getD (a .sums) i noSums .debit ≡ t) × (getD (a .sums) i noSums .credit ≡ u))
+      own-records s d (λ x t. sideOf x (getD (t .sections) i noSums)) (λ x r. ofLine 0 (ofSection x i r) (kindIn r)) (λ a t u. (getD (a .sums) i noSums .debit ≡ t) × (getD (a .sums) i noSums .credit ≡ u))
       (λ x r q. q _ 0 0 0 .0) (λ x. no-side x 5 i) line pay e lo hi
     where
       line : (x : Side) (t : DelegaSums) (r : List ℕ) (j : ℕ) → kindIn r ≡ Line j → length (t .sections) ≡ 5 →
-          sideOf x (getD (withLine t j r .sections) i noSums) ≡ sideOf x (getD (t .sections) i noSums) + ofLine (ofSection x i r) (kindIn r)
+          sideOf x (getD (withLine t j r .sections) i noSums) ≡ sideOf x (getD (t .sections) i noSums) + ofLine 0 (ofSection x i r) (kindIn r)
       line x t r j k l = rw k (section-grows x i r j (t .sections) (omega arith))
 
       pay : (st : State) (r : List ℕ) → kindIn r ≡ Payment → Right (headNameOf s) st r → (t u : ℕ) →
-          t ≡ getD (st .money .delega .sections) i noSums .debit + ofLine (ofSection Debit i r) (kindIn r) → u ≡ getD (st .money .delega .sections) i noSums .credit + ofLine (ofSection Credit i r) (kindIn r) →
+          t ≡ getD (st .money .delega .sections) i noSums .debit + ofLine 0 (ofSection Debit i r) (kindIn r) → u ≡ getD (st .money .delega .sections) i noSums .credit + ofLine 0 (ofSection Credit i r) (kindIn r) →
           (getD (answered st .sums) i noSums .debit ≡ t) × (getD (answered st .sums) i noSums .credit ≡ u)
       pay st r k p t u a b = (omega (arith, rw k at a), omega (arith, rw k at b))
 
