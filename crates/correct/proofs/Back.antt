@@ -18,7 +18,7 @@ use Rattle.rebalance.specs.Rebalance.{rebalanced, flat, Sized}
 use Rattle.rebalance.proofs.Emit.{emit-plain}
 use Rattle.rebalance.proofs.Rebalanced.{mendable-fits, length-rebalanced, sized-rebalanced, state-rebalanced, rebalanced-append}
 use Rattle.rebalance.proofs.Flat.{records-flat}
-use Rattle.rebalance.proofs.Judged.{sized-records, accepted-untouched}
+use Rattle.rebalance.proofs.Judged.{sized-records, accepted-untouched, accepted-mends}
 use Rattle.find.specs.Line.{lineFrom, lineOfKind, lineOf}
 use Rattle.correct.specs.declared.Correction.the-variants.{Made}
 use Rattle.correct.specs.Correction.{sectionOf, refreshed, correctionOf, correctedBytes}
@@ -26,7 +26,7 @@ use Rattle.correct.specs.Effect.{withAmounts, MayBeMade, debitOf, credit
 use Rattle.correct.proofs.Amended.{amended, amended-again, line-amended}
 use Rattle.correct.proofs.Split.{Split, line-splits, parts, length-here, within-table, records-replaced}
 use Rattle.correct.proofs.Conditions.{made-exactly-when, made-bytes}
-use Rattle.correct.proofs.StaysAccepted.{accepted-whole, accepted-mends, amounts-whole, refreshed-accepted, refreshed-length}
+use Rattle.correct.proofs.StaysAccepted.{accepted-whole, amounts-whole, refreshed-accepted, refreshed-length}
 use Rattle.correct.proofs.Rewritten.{AllAlike, alike-rebalanced, alike-around, same-kinds, same-rebalanced, same-negative, same-fits}
 use Rattle.correct.proofs.SameAmounts.{mendable-positive, Own, own}
 
@@ -165,7 +165,7 @@ module _ (f : List ℕ) (d subtype n x y : ℕ) (m : MayBeMade f d subtype n x y
   -- That restores the flow.
   back-flow : refreshed (withAmounts g d subtype n u v) ≡ f
   unfolding refreshed
-  back-flow = ap flat (same-rebalanced back-alike startState) ∙ accepted-untouched f (w .short) (w .some) (w .even) (m .accepted)
+  back-flow = ap flat (same-rebalanced back-alike startState) ∙ accepted-untouched f (m .accepted)
 
 -- After a correction that is made, one back to the old amounts is made, and restores every byte.
 pub correct-back : (f : List ℕ) (d subtype n x y : ℕ) → correctionOf f d subtype n x y ≡ Made →

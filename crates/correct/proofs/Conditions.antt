@@ -11,10 +11,11 @@ use Rattle.rules.specs.State.{startState}
 use Rattle.rules.specs.Amounts.{lineRight}
 use Rattle.judge.specs.declared.Verdict.{Verdict}
 use Rattle.judge.specs.declared.Verdict.the-variants as Judged
+use Rattle.judge.specs.Refusal.{judgedFirst}
 use Rattle.judge.specs.Flow.{recordsOf, judged}
 use Rattle.rebalance.specs.Rebalance.{allFit}
 use Rattle.find.specs.declared.Found.the-variants as Answer
-use Rattle.find.specs.Line.{judgedFirst, lineOf, foundIn}
+use Rattle.find.specs.Line.{lineOf, foundIn}
 use Rattle.correct.specs.declared.Correction.{Correction}
 use Rattle.correct.specs.declared.Correction.the-variants.{Made, Refused}
 use Rattle.rebalance.specs.Weigh.{anyNegative}
@@ -44,7 +45,7 @@ module _ (f : List ℕ) (d subtype n x y : ℕ) where
   unfolding correctionOf foundIn
   made-found e = go (judged f .verdict) (eqb k 0) refl refl e
     where
-      go : (v : Verdict) (t : Bool) → judged f .verdict ≡ v → eqb k 0 ≡ t → afterFound (judgedFirst v (cond t (Answer.Refused 21 0 0) (Answer.At k))) s x y f ≡ Made → (judged f .verdict ≡ Judged.Accepted) × (k ≡ 0 → ⊥) × (tried k s x y f ≡ Made)
+      go : (v : Verdict) (t : Bool) → judged f .verdict ≡ v → eqb k 0 ≡ t → afterFound (judgedFirst Answer.Refused v (cond t (Answer.Refused 21 0 0) (Answer.At k))) s x y f ≡ Made → (judged f .verdict ≡ Judged.Accepted) × (k ≡ 0 → ⊥) × (tried k s x y f ≡ Made)
       go Judged.Accepted true p q e = absurd (refused-not-made e)
       go Judged.Accepted false p q e = (p, eqb-false k 0 q, e)
       go (Judged.Refused a b c) t p q e = absurd (refused-not-made e)

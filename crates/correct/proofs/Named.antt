@@ -8,12 +8,13 @@ use borrow.Author.Tests.{eqb-false}
 use lib.Dec.{eqb}
 use Rattle.judge.specs.declared.Verdict.{Verdict}
 use Rattle.judge.specs.declared.Verdict.the-variants as Judged
+use Rattle.judge.specs.Refusal.{judgedFirst}
 use Rattle.judge.specs.Flow.{judged}
 use Rattle.judge.specs.Plain.{Whole}
 use Rattle.judge.proofs.Accepted.{accepted-means-no-fault}
 use Rattle.find.specs.declared.Found.{Found}
 use Rattle.find.specs.declared.Found.the-variants as Answer
-use Rattle.find.specs.Line.{judgedFirst, lineOf, foundIn}
+use Rattle.find.specs.Line.{lineOf, foundIn}
 use Rattle.find.proofs.FoundPart.{found-part}
 use Rattle.correct.specs.declared.Correction.{Correction}
 use Rattle.correct.specs.declared.Correction.the-variants.{Made, Refused}
@@ -27,7 +28,7 @@ module _ (f : List ℕ) (d subtype n : ℕ) where
   unfolding foundIn
   found-accepted {k} e = go (judged f .verdict) (eqb (lineOf f d subtype n) 0) refl refl e
     where
-      go : (v : Verdict) (t : Bool) → judged f .verdict ≡ v → eqb (lineOf f d subtype n) 0 ≡ t → judgedFirst v (cond t (Answer.Refused 21 0 0) (Answer.At (lineOf f d subtype n))) ≡ Answer.At k
+      go : (v : Verdict) (t : Bool) → judged f .verdict ≡ v → eqb (lineOf f d subtype n) 0 ≡ t → judgedFirst Answer.Refused v (cond t (Answer.Refused 21 0 0) (Answer.At (lineOf f d subtype n))) ≡ Answer.At k
           → (judged f .verdict ≡ Judged.Accepted) × (lineOf f d subtype n ≡ 0 → ⊥)
       go Judged.Accepted false p q r = (p, eqb-false _ _ q)
       go Judged.Accepted true p q r = let z : _≡_ {A = ℕ} 0 1 = cc in absurd (omega arith)

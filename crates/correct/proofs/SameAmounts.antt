@@ -24,18 +24,19 @@ use Rattle.judge.specs.declared.Verdict.the-variants.{Accepted}
 use Rattle.judge.specs.Flow.{recordsOf, headNameOf, judged}
 use Rattle.judge.specs.Plain.{Whole, stateAfter}
 use Rattle.rebalance.specs.Rebalance.{flat, Mendable}
+use Rattle.rebalance.proofs.Emit.{kept-each}
 use Rattle.rebalance.proofs.Rebalanced.{mendable-fits}
-use Rattle.rebalance.proofs.Judged.{flat-records, accepted-untouched}
+use Rattle.rebalance.proofs.Judged.{flat-records, accepted-untouched, accepted-mends}
 use Rattle.find.specs.Line.{lineOf}
 use Rattle.correct.specs.declared.Correction.the-variants.{Made}
 use Rattle.rebalance.specs.Weigh.{negativeAt, anyNegative}
 use Rattle.correct.specs.Correction.{sectionOf, refreshed, correctionOf, correctedBytes}
 use Rattle.correct.specs.Effect.{withAmounts, recordNamed, debitOf, creditOf}
 use Rattle.correct.proofs.Amended.{amended, amended-own}
-use Rattle.correct.proofs.Mended.{kept-each, kept-readable}
+use Rattle.correct.proofs.Mended.{kept-readable}
 use Rattle.correct.proofs.Split.{Split, line-splits, length-here, within-table, replaced-flat}
 use Rattle.correct.proofs.Conditions.{made-exactly-when, made-bytes}
-use Rattle.correct.proofs.StaysAccepted.{accepted-whole, accepted-mends}
+use Rattle.correct.proofs.StaysAccepted.{accepted-whole}
 
 -- A record that passes its own rules does not close a negative delega.
 own-positive : (name : List ℕ) (st : State) (k : Kind) (r : List ℕ) → ownFault name st k r ≡ Pass → negativeAt st k ≡ false
@@ -118,7 +119,7 @@ module _ (f : List ℕ) (d subtype n : ℕ) (a : judged f .verdict ≡ Accepted)
   -- A correction to a line's own amounts is made, and leaves every byte.
   pub same-amounts : (correctionOf f d subtype n (debitOf f d subtype n) (creditOf f d subtype n) ≡ Made) × (correctedBytes f d subtype n (debitOf f d subtype n) (creditOf f d subtype n) ≡ f)
   unfolding refreshed
-  same-amounts = (made, made-bytes f d subtype n (debitOf f d subtype n) (creditOf f d subtype n) made ∙ (ap refreshed own-flow ∙ accepted-untouched f (w .short) (w .some) (w .even) a))
+  same-amounts = (made, made-bytes f d subtype n (debitOf f d subtype n) (creditOf f d subtype n) made ∙ (ap refreshed own-flow ∙ accepted-untouched f a))
     where
       made : correctionOf f d subtype n (debitOf f d subtype n) (creditOf f d subtype n) ≡ Made
       made =

@@ -13,7 +13,7 @@ use Rattle.text.specs.Placing.{putAt}
 use Rattle.layout.specs.declared.Kind.{Kind}
 use Rattle.layout.specs.declared.Kind.the-variants.{Head, Taxpayer, Domicile, Line, Balance, Payment, Receipt, Addressee, Tail, Unknown}
 use Rattle.layout.specs.Sections.{sectionAt}
-use Rattle.layout.specs.Kinds.{sectionKind, kindIn}
+use Rattle.layout.specs.Kinds.{ofLine, sectionKind, kindIn}
 use Rattle.rules.specs.declared.Stage.{Stage}
 use Rattle.rules.specs.declared.State.{State}
 use Rattle.rules.specs.State.{startState}
@@ -26,7 +26,7 @@ use Rattle.rebalance.proofs.Columns.{line-within}
 use Rattle.rebalance.proofs.Flat.{length-flat, records-flat}
 use Rattle.rebalance.proofs.Judged.{sized-records, flat-records}
 use Rattle.find.specs.Line.{isLine, lineFrom, lineOfKind, lineOf}
-use Rattle.correct.specs.Correction.{sectionOfKind, sectionOf, replaced}
+use Rattle.correct.specs.Correction.{sectionOf, replaced}
 use Rattle.correct.proofs.Amended.{amended, credit-room, debit-room, length-amended}
 
 -- The k-th record, counted from the j-th on, is a line of section s in delega d.
@@ -75,7 +75,7 @@ pub line-splits : (f : List ℕ) (d subtype n : ℕ) → (lineOf f d subtype n �
 unfolding lineOf startState
 line-splits f d subtype n h = go (sectionKind subtype) h
   where
-    go : (k : Kind) → (lineOfKind d k n f ≡ 0 → ⊥) → Split d (sectionOfKind k) startState 0 (lineOfKind d k n f) (recordsOf f)
+    go : (k : Kind) → (lineOfKind d k n f ≡ 0 → ⊥) → Split d (ofLine 5 (λ s. s) k) startState 0 (lineOfKind d k n f) (recordsOf f)
     go Head h = absurd (h refl)
     go Taxpayer h = absurd (h refl)
     go Domicile h = absurd (h refl)

@@ -13,12 +13,11 @@ use Rattle.judge.specs.declared.Verdict.the-variants.{Accepted}
 use Rattle.judge.specs.declared.Judgement.{Judgement}
 use Rattle.judge.specs.Flow.{acceptedWith, recordsOf, headNameOf, judged}
 use Rattle.judge.specs.Plain.{Whole, stateAfter}
-use Rattle.judge.proofs.Accepted.{judged-whole, accepted-means-no-fault}
+use Rattle.judge.proofs.Accepted.{accepted-means-no-fault}
 use Rattle.rebalance.specs.Rebalance.{flat, Mendable}
 use Rattle.rebalance.proofs.Emit.{kept-stands}
-use Rattle.rebalance.proofs.Rebalanced.{accepted-mendable}
 use Rattle.rebalance.proofs.Flat.{name-in-front}
-use Rattle.rebalance.proofs.Judged.{sized-records, flat-records, length-mended, judged-rebalanced}
+use Rattle.rebalance.proofs.Judged.{flat-records, length-mended, judged-rebalanced, accepted-mends}
 use Rattle.find.specs.Line.{lineOf}
 use Rattle.correct.specs.declared.Correction.{Correction}
 use Rattle.correct.specs.declared.Correction.the-variants.{Made, Refused}
@@ -39,9 +38,6 @@ name-behind name (z ∷ xs) r t ys s e m = name-in-front z _ (m .0) ∙ sym (nam
 module _ (f : List ℕ) (a : judged f .verdict ≡ Accepted) where
   pub accepted-whole : Whole f
   accepted-whole = accepted-means-no-fault f a .whole
-
-  pub accepted-mends : Mendable (headNameOf f) startState (recordsOf f)
-  accepted-mends = accepted-mendable _ startState (recordsOf f) (sized-records f (accepted-whole .even)) (ap (λ (j : Judgement). j .verdict) (sym (judged-whole f accepted-whole)) ∙ a)
 
 -- A correction that may be made.
 module _ (f : List ℕ) (d subtype n x y : ℕ) (m : MayBeMade f d subtype n x y) where
@@ -87,7 +83,7 @@ module _ (f : List ℕ) (d subtype n x y : ℕ) (m : MayBeMade f d subtype n x y
   -- The refreshed flow is accepted, with the sums of its lines.
   pub refreshed-accepted : judged (refreshed t) ≡ acceptedWith (stateAfter startState (recordsOf t))
   unfolding refreshed
-  refreshed-accepted = judged-rebalanced t (amounts-whole .short) (amounts-whole .some) (amounts-whole .even) (rw same-name new-mends)
+  refreshed-accepted = judged-rebalanced t amounts-whole (rw same-name new-mends)
 
   -- It has as many bytes.
   pub refreshed-length : length (refreshed t) ≡ length f

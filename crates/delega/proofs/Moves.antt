@@ -82,7 +82,7 @@ balance-open p a e = go (eqb p afterLine) refl e
     go false i f = absurd (false≢true f)
 
 -- check 8 passes only where the number is the one that is expected
-carried-number : (d v : ℕ) → carried d v ≡ Pass → v ≡ d
+pub carried-number : (d v : ℕ) → carried d v ≡ Pass → v ≡ d
 unfolding carried
 carried-number d v e = go (eqb v d) refl e
   where
