@@ -1,6 +1,6 @@
 -- A correction of the line that was found, and of none.
-use Prim.Native.Nat.{ℕ, _<_, _≤_}
-use mathlib.Core.Path.{_≡_, refl, sym, ap, _∙_}
+use Prim.Native.Nat.{ℕ}
+use mathlib.Core.Path.{_≡_, refl}
 use mathlib.Core.Bool.{Bool, true, false, cond}
 use mathlib.Core.List.{List}
 use native.Mathlib.Omega.{arith}
@@ -12,12 +12,11 @@ use Rattle.judge.specs.Refusal.{judgedFirst}
 use Rattle.judge.specs.Flow.{judged}
 use Rattle.judge.specs.Plain.{Whole}
 use Rattle.judge.proofs.Accepted.{accepted-means-no-fault}
-use Rattle.find.specs.declared.Found.{Found}
 use Rattle.find.specs.declared.Found.the-variants as Answer
 use Rattle.find.specs.Line.{lineOf, foundIn}
 use Rattle.find.proofs.FoundPart.{found-part}
 use Rattle.correct.specs.declared.Correction.{Correction}
-use Rattle.correct.specs.declared.Correction.the-variants.{Made, Refused}
+use Rattle.correct.specs.declared.Correction.the-variants.{Refused}
 use Rattle.correct.specs.Correction.{sectionOf, replaced, refreshed, tried, bytesAfter, correctionOf, correctedBytes}
 use Rattle.correct.specs.Writing.{KthLine}
 use Rattle.correct.proofs.Split.{line-splits, within-table}

@@ -25,7 +25,7 @@ use Rattle.layout.proofs.Table.{at-each}
 use Rattle.rules.specs.declared.Sums.{Sums}
 use Rattle.rules.specs.declared.State.{State}
 use Rattle.rules.specs.declared.Outcome.{Outcome}
-use Rattle.rules.specs.declared.Outcome.the-variants.{Pass, Fault}
+use Rattle.rules.specs.declared.Outcome.the-variants.{Pass}
 use Rattle.rules.specs.Order.{first}
 use Rattle.rules.specs.Amounts.{signOf, apart}
 use Rattle.rules.specs.Stored.{Stored, Value, Mark, sectionSums, storedOf}

@@ -1,7 +1,7 @@
 -- The laws of rebalancing a flow: where it mends the flow's records, the flow is accepted after it with the sums of its lines; an accepted flow is mended, and keeps every byte.
 use Prim.Native.Nat.{ℕ, _*_, _/_, _%_}
 use mathlib.Core.Path.{_≡_, refl, sym, ap, _∙_}
-use mathlib.Core.Bool.{true, false, false≢true}
+use mathlib.Core.Bool.{true, false≢true}
 use mathlib.Core.List.{List, [], _∷_}
 use native.Mathlib.Omega.{arith}
 use lib.ListN.{length}
