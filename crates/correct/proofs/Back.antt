@@ -18,6 +18,7 @@ use Rattle.rebalance.specs.Rebalance.{rebalanced, flat, Sized}
 use Rattle.rebalance.proofs.Emit.{emit-plain}
 use Rattle.rebalance.proofs.Rebalanced.{mendable-fits, length-rebalanced, sized-rebalanced, state-rebalanced, rebalanced-append}
 use Rattle.rebalance.proofs.Flat.{records-flat}
+use Rattle.rebalance.proofs.Weighed.{mendable-positive}
 use Rattle.rebalance.proofs.Judged.{sized-records, accepted-untouched, accepted-mends}
 use Rattle.find.specs.Line.{lineFrom, lineOfKind, lineOf}
 use Rattle.correct.specs.declared.Correction.the-variants.{Made}
@@ -28,7 +29,7 @@ use Rattle.correct.proofs.Split.{Split, line-splits, parts, length-here
 use Rattle.correct.proofs.Conditions.{made-exactly-when, made-bytes}
 use Rattle.correct.proofs.StaysAccepted.{accepted-whole, amounts-whole, refreshed-accepted, refreshed-length}
 use Rattle.correct.proofs.Rewritten.{AllAlike, alike-rebalanced, alike-around, same-kinds, same-rebalanced, same-negative, same-fits}
-use Rattle.correct.proofs.SameAmounts.{mendable-positive, Own, own}
+use Rattle.correct.proofs.SameAmounts.{Own, own}
 
 -- A line is found by the kinds of the records.
 line-by-kinds : (d s n : ℕ) (p : Stage) (e j : ℕ) (xs ys : List (List ℕ)) → map kindIn xs ≡ map kindIn ys → lineFrom d s n p e j xs ≡ lineFrom d s n p e j ys

@@ -10,3 +10,5 @@ pub mod OtherSums
 pub mod OnlyNamed
 pub mod Undone
 pub mod Named
+pub mod InOrder
+pub mod OwnNegative

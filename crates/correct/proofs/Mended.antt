@@ -24,6 +24,7 @@ use Rattle.rebalance.specs.Rebalance.{fitsAll, allFit, keptFault, Mendable}
 use Rattle.rebalance.proofs.Written.{both-true, digits-pass}
 use Rattle.rebalance.proofs.Columns.{line-within}
 use Rattle.rebalance.proofs.Emit.{kept-each, kept-all, allowed-of}
+use Rattle.rebalance.proofs.Weighed.{neither}
 use Rattle.rebalance.specs.Weigh.{negativeAt, anyNegative}
 use Rattle.correct.proofs.Amended.{amended, length-amended, amended-part, type-amended, kind-amended, allowed-amended, debit-amended, credit-amended, line-amended}
 
@@ -51,11 +52,6 @@ own-near name a b Receipt r h e = e
 own-near name a b Addressee r h e = e
 own-near name a b Tail r h e = e
 own-near name a b Unknown r h e = e
-
--- Where neither of two tests holds, each fails.
-neither : (a b : Bool) → cond a true b ≡ false → (a ≡ false) × (b ≡ false)
-neither true b e = (e, cc)
-neither false b e = (refl, e)
 
 -- Records that rebalancing mends after one state, it mends after another that differs in money only, where no delega is negative and all fits.
 mended-near : (name : List ℕ) (a b : State) (rs : List (List ℕ)) → Near a b → Mendable name a rs → anyNegative b rs ≡ false → allFit b rs ≡ true → Mendable name b rs

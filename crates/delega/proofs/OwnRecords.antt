@@ -30,7 +30,7 @@ line-delega : (st : State) (r : List ℕ) (s : ℕ) → kindIn r ≡ Line s → 
 unfolding next
 line-delega st r s e = rw e
 
-payment-delega : (st : State) (r : List ℕ) → kindIn r ≡ Payment → next st r .money .delega ≡ zeroDelega
+pub payment-delega : (st : State) (r : List ℕ) → kindIn r ≡ Payment → next st r .money .delega ≡ zeroDelega
 unfolding next
 payment-delega st r e = rw e
 
