@@ -48,7 +48,7 @@ each-join st [] ys h i = i
 each-join st (x ∷ xs) ys h i = (h .0, each-join (next st x) xs ys (h .1) i)
 
 -- Order and numbers do not look at money.
-near-next : (a b : State) (r : List ℕ) → Near a b → Near (next a r) (next b r)
+pub near-next : (a b : State) (r : List ℕ) → Near a b → Near (next a r) (next b r)
 unfolding next
 near-next a b r n = near-on a b (kindIn r) _ _ n
 
@@ -65,7 +65,7 @@ near-after a b [] n = n
 near-after a b (r ∷ rs) n = near-after (next a r) (next b r) rs (near-next a b r n)
 
 -- The deleghe that have their 50-01 after records are no fewer than before them.
-between-after : (n : ℕ) (st : State) (xs : List (List ℕ)) → Between n st → Each Standing st xs → (m : ℕ) × (n ≤ m) × Between m (stateAfter st xs)
+pub between-after : (n : ℕ) (st : State) (xs : List (List ℕ)) → Between n st → Each Standing st xs → (m : ℕ) × (n ≤ m) × Between m (stateAfter st xs)
 unfolding stateAfter
 between-after n st [] b h = (n, omega arith, b)
 between-after n st (r ∷ xs) b h = go (move-of n st b r (h .0)) (λ i c. between-after i (next st r) xs c (h .1))
@@ -194,7 +194,7 @@ module _ (f : List ℕ) (d subtype n : ℕ) (a : judged f .verdict ≡ Accepted)
   one-at-least = omega (arith, opened .own-next)
 
   -- The flow ends with EF, and has that many deleghe.
-  last-new : stateAfter startState (recordsOf g) ≡ stateAfter new (p .behind)
+  pub last-new : stateAfter startState (recordsOf g) ≡ stateAfter new (p .behind)
   unfolding stateAfter
   last-new = ap (stateAfter startState) records-new ∙ after-append startState (p .before) (line ∷ p .behind)
 

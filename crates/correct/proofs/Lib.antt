@@ -12,3 +12,7 @@ pub mod Undone
 pub mod Named
 pub mod InOrder
 pub mod OwnNegative
+pub mod TailSum
+pub mod WithinDelega
+pub mod OwnFits
+pub mod OwnOverflow

@@ -26,7 +26,7 @@ abbrev pub withLine : DelegaSums → ℕ → List ℕ → DelegaSums
 withLine t s r = record { sections = addedAt (t .sections) s (lineSums (Line s) r); all = added (t .all) (lineSums (Line s) r) }
 
 -- the open delega's sums after a line, after a 50-01, and at the start
-line-delega : (st : State) (r : List ℕ) (s : ℕ) → kindIn r ≡ Line s → next st r .money .delega ≡ withLine (st .money .delega) s r
+pub line-delega : (st : State) (r : List ℕ) (s : ℕ) → kindIn r ≡ Line s → next st r .money .delega ≡ withLine (st .money .delega) s r
 unfolding next
 line-delega st r s e = rw e
 
