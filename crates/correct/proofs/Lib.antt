@@ -16,3 +16,5 @@ pub mod TailSum
 pub mod WithinDelega
 pub mod OwnFits
 pub mod OwnOverflow
+pub mod Answered
+pub mod Refusals

@@ -39,11 +39,11 @@ use Rattle.rebalance.proofs.Judged.{sized-records, flat-records}
 use Rattle.find.specs.Line.{lineOf}
 use Rattle.correct.specs.declared.Correction.the-variants.{Made}
 use Rattle.correct.specs.Correction.{sectionOf, refreshed, correctionOf, correctedBytes}
-use Rattle.correct.specs.Effect.{withAmounts, MayBeMade}
+use Rattle.correct.specs.Effect.{withAmounts}
 use Rattle.correct.specs.Touched.{lineColumns, signAndBalance, balanceColumns, storedColumns, inAny, mayTouch}
 use Rattle.correct.proofs.Amended.{amended, credit-room, debit-room, line-amended}
 use Rattle.correct.proofs.Split.{Split, line-splits, records-replaced}
-use Rattle.correct.proofs.Conditions.{made-exactly-when, made-bytes}
+use Rattle.correct.proofs.Conditions.{Passed, made-passed, made-bytes}
 use Rattle.correct.proofs.StaysAccepted.{accepted-whole, amounts-whole}
 use Rattle.correct.proofs.Rewritten.{row}
 use Rattle.correct.proofs.OtherSums.{Off, blank-at, off-on, off-line}
@@ -191,7 +191,7 @@ all-bytes name d s st (t ∷ xs) r ys z f e n x y zero c h g = ap (λ (u : List 
 all-bytes name d s st (t ∷ xs) r ys z f e n x y (suc q) c h g = all-bytes name d s (next st t) xs r ys (z .1) (f .1) e n x y q c (λ p. h (ap suc p)) (λ p. g (λ u. p (omega arith)))
 
 -- A correction that may be made, and a byte that it may not touch.
-module _ (f : List ℕ) (d subtype n x y : ℕ) (m : MayBeMade f d subtype n x y) (i : ℕ) (h : mayTouch f d subtype n i ≡ false) where
+module _ (f : List ℕ) (d subtype n x y : ℕ) (m : Passed f d subtype n x y) (i : ℕ) (h : mayTouch f d subtype n i ≡ false) where
   abbrev w : Whole f
   w = accepted-whole f (m .accepted)
 
@@ -222,4 +222,4 @@ module _ (f : List ℕ) (d subtype n x y : ℕ) (m : MayBeMade f d subtype n x y
 
 -- A correction that is made leaves every byte outside the columns that it may touch.
 pub only-named-columns : (f : List ℕ) (d subtype n x y : ℕ) → correctionOf f d subtype n x y ≡ Made → (i : ℕ) → mayTouch f d subtype n i ≡ false → getD (correctedBytes f d subtype n x y) i 0 ≡ getD f i 0
-only-named-columns f d subtype n x y e i h = rw (made-bytes f d subtype n x y e) (refreshed-byte f d subtype n x y (made-exactly-when f d subtype n x y .0 e) i h)
+only-named-columns f d subtype n x y e i h = rw (made-bytes f d subtype n x y e) (refreshed-byte f d subtype n x y (made-passed f d subtype n x y .0 e) i h)

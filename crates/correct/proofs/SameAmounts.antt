@@ -28,7 +28,7 @@ use Rattle.correct.specs.Effect.{withAmounts, recordNamed, debitOf, cred
 use Rattle.correct.proofs.Amended.{amended, amended-own}
 use Rattle.correct.proofs.Mended.{kept-readable}
 use Rattle.correct.proofs.Split.{Split, line-splits, length-here, within-table, replaced-flat}
-use Rattle.correct.proofs.Conditions.{made-exactly-when, made-bytes}
+use Rattle.correct.proofs.Conditions.{Passed, made-passed, made-bytes}
 use Rattle.correct.proofs.StaysAccepted.{accepted-whole}
 
 -- Records behind others are mended after the state that these lead to.
@@ -92,7 +92,7 @@ module _ (f : List ℕ) (d subtype n : ℕ) (a : judged f .verdict ≡ Accepted)
     where
       made : correctionOf f d subtype n (debitOf f d subtype n) (creditOf f d subtype n) ≡ Made
       made =
-          made-exactly-when f d subtype n _ _ .1
+          made-passed f d subtype n _ _ .1
           (record {
             accepted = a;
             found = h;

@@ -1,4 +1,4 @@
--- What is shown of corrections: when one is made, the amounts that a line has, and what a series of calls leaves.
+-- Believed by who reads the theorems. The flow with a line's amounts replaced, the amounts that a line has, and what a series of calls leaves.
 use Prim.Native.Nat.{ℕ, _-_, _≤_}
 use mathlib.Core.Path.{_≡_}
 use mathlib.Core.Bool.{true, false}
@@ -18,16 +18,6 @@ use Rattle.correct.specs.Correction.{sectionOf, replaced, correctedBytes
 -- The flow with the amounts of the line that is named replaced.
 abbrev pub withAmounts : List ℕ → ℕ → ℕ → ℕ → ℕ → ℕ → List ℕ
 withAmounts f d subtype n debit credit = replaced (lineOf f d subtype n) (sectionOf subtype) debit credit f
-
--- None of the refusals of a correction holds: that of the flow, 21, 22, 9, 14 and 23.
-pub record MayBeMade (f : List ℕ) (d subtype n debit credit : ℕ) : Type 0 where
-  pub accepted : judged f .verdict ≡ Accepted
-  pub found : lineOf f d subtype n ≡ 0 → ⊥
-  pub debit-fits : debit ≤ 999_999_999_999_999
-  pub credit-fits : credit ≤ 999_999_999_999_999
-  pub right : lineRight (sectionOf subtype) debit credit ≡ true
-  pub not-negative : anyNegative startState (recordsOf (withAmounts f d subtype n debit credit)) ≡ false
-  pub all-fits : allFit startState (recordsOf (withAmounts f d subtype n debit credit)) ≡ true
 
 -- The record of the line that is named.
 abbrev pub recordNamed : List ℕ → ℕ → ℕ → ℕ → List ℕ
