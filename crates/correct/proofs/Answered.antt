@@ -6,8 +6,7 @@ use mathlib.Core.List.{List}
 use mathlib.Core.Logic.{_↔_, inl, inr}
 use native.Mathlib.Omega.{arith}
 use native.Mathlib.Decide.{ℕ-discrete, decLt}
-use borrow.Author.Tests.{ltb-true, ltb-false, eq-eqb, ne-eqb}
-use lib.Dec.{ltb}
+use borrow.Author.Tests.{eq-eqb, ne-eqb}
 use Rattle.rules.specs.State.{startState}
 use Rattle.rules.specs.Amounts.{lineRight}
 use Rattle.judge.specs.declared.Verdict.{Verdict}
@@ -16,12 +15,12 @@ use Rattle.judge.specs.Flow.{judged}
 use Rattle.rebalance.specs.Rebalance.{allFit}
 use Rattle.rebalance.specs.Weigh.{anyNegative}
 use Rattle.find.specs.Line.{lineOf, foundIn}
-use Rattle.find.proofs.NamedLine.{named-line, line-of-named}
 use Rattle.correct.specs.declared.Correction.{Correction}
 use Rattle.correct.specs.declared.Correction.the-variants.{Made, Refused}
 use Rattle.correct.specs.Correction.{sectionOf, weighed, tried, correctionOf}
 use Rattle.correct.specs.Effect.{withAmounts}
-use Rattle.correct.specs.WhenRefused.{HasLine, Large, Negative, Overflows, newRecords, Tried22, Tried9, Tried14, Tried23, MayBeMade, Answers, AsFlow, NoLine, TooLarge, WrongLine, TurnsNegative, HasNoRoom, IsMade}
+use Rattle.correct.specs.WhenRefused.{HasLine, Large, Negative, Overflows, newRecords, Tried22, Tried9, Tried14, Tried23, Answers, AsFlow, NoLine, TooLarge, WrongLine, TurnsNegative, HasNoRoom, IsMade}
+use Rattle.correct.proofs.Split.{line-found, has-line}
 use Rattle.correct.proofs.Undone.{weighed-negative, weighed-made, weighed-unfit, tried-debit, tried-credit, tried-wrong, tried-weighed}
 use Rattle.correct.proofs.OwnNegative.{only-own-delega-negative}
 use Rattle.correct.proofs.OwnOverflow.{only-these-can-overflow}
@@ -60,13 +59,6 @@ module _ (f : List ℕ) (d subtype n x y : ℕ) where
 
   -- An accepted flow.
   module _ (a : judged f .verdict ≡ Judged.Accepted) where
-    -- The line that is named is the one that is searched for.
-    has-line : (k ≡ 0 → ⊥) → HasLine f d subtype n
-    has-line z = (k, named-line f d subtype n k a refl z)
-
-    line-found : HasLine f d subtype n → k ≡ 0 → ⊥
-    line-found h z = omega (arith, line-of-named f d subtype n (h .0) a (h .1), h .1 .counted)
-
     -- 21 is answered where there is none, and the other tests are tried where there is one.
     absent-is : k ≡ 0 → answer ≡ Refused 21 0 0
     unfolding correctionOf foundIn
@@ -78,22 +70,19 @@ module _ (f : List ℕ) (d subtype n x y : ℕ) where
 
     -- The line is there.
     module _ (h : HasLine f d subtype n) where
-      abbrev found : k ≡ 0 → ⊥
-      found = line-found h
-
       -- 14 and 23 are the tests of the definition.
       negative-is : (anyNegative startState (newRecords f d subtype n x y) ≡ true) ↔ Negative d (newRecords f d subtype n x y)
-      negative-is = only-own-delega-negative f d subtype n a found x y
+      negative-is = only-own-delega-negative f d subtype n a h x y
 
       positive-is : (Negative d (newRecords f d subtype n x y) → ⊥) → anyNegative startState (newRecords f d subtype n x y) ≡ false
       positive-is p = fails _ (λ e. p (negative-is .0 e))
 
       overflow-is : anyNegative startState (newRecords f d subtype n x y) ≡ false → (allFit startState (newRecords f d subtype n x y) ≡ false) ↔ Overflows d s (newRecords f d subtype n x y)
-      overflow-is p = only-these-can-overflow f d subtype n a found x y p
+      overflow-is p = only-these-can-overflow f d subtype n a h x y p
 
       -- They are tried where the amounts fit and keep the line rule.
       weighed-is : x ≤ 999_999_999_999_999 → y ≤ 999_999_999_999_999 → lineRight s x y ≡ true → answer ≡ weighed (withAmounts f d subtype n x y)
-      weighed-is i j r = tried-is found ∙ tried-weighed k s x y f i j r
+      weighed-is i j r = tried-is (line-found f d subtype n a h) ∙ tried-weighed k s x y f i j r
 
   -- Each way gives its answer.
   answer-of : {c : Correction} → Answers f d subtype n x y c → answer ≡ c
@@ -102,15 +91,15 @@ module _ (f : List ℕ) (d subtype n x y : ℕ) where
     where
       go : Dec (k ≡ 0) → answer ≡ Refused 21 0 0
       go (yes z) = absent-is a z
-      go (no z) = absurd (h (has-line a z))
-  answer-of (TooLarge t (inl l)) = tried-is (t .accepted) (line-found (t .accepted) (t .line)) ∙ tried-debit k s x y f l
-  answer-of (TooLarge t (inr l)) = tried-is (t .accepted) (line-found (t .accepted) (t .line)) ∙ go (decLt 999_999_999_999_999 x)
+      go (no z) = absurd (h (has-line f d subtype n a z))
+  answer-of (TooLarge t (inl l)) = tried-is (t .accepted) (line-found f d subtype n (t .accepted) (t .line)) ∙ tried-debit k s x y f l
+  answer-of (TooLarge t (inr l)) = tried-is (t .accepted) (line-found f d subtype n (t .accepted) (t .line)) ∙ go (decLt 999_999_999_999_999 x)
     where
       go : Dec (999_999_999_999_999 < x) → tried k s x y f ≡ Refused 22 0 0
       go (yes i) = tried-debit k s x y f i
       go (no i) = tried-credit k s x y f (omega arith) l
   answer-of (WrongLine t e) =
-      tried-is (t .before .accepted) (line-found (t .before .accepted) (t .before .line)) ∙ tried-wrong k s x y f (small x (t .debit-fits)) (small y (t .credit-fits)) e
+      tried-is (t .before .accepted) (line-found f d subtype n (t .before .accepted) (t .before .line)) ∙ tried-wrong k s x y f (small x (t .debit-fits)) (small y (t .credit-fits)) e
   answer-of (TurnsNegative t h) =
       let u = t .before .before in
       weighed-is (u .accepted) (u .line) (small x (t .before .debit-fits)) (small y (t .before .credit-fits)) (t .right)
@@ -156,8 +145,8 @@ module _ (f : List ℕ) (d subtype n x y : ℕ) where
       by-size t (no i) (no j) = by-rule (record { before = t; debit-fits = i; credit-fits = j }) (lineRight s x y) refl
 
       by-line : judged f .verdict ≡ Judged.Accepted → Dec (k ≡ 0) → (c : Correction) × Answers f d subtype n x y c
-      by-line a (yes z) = (Refused 21 0 0, NoLine a (λ h. line-found a h z))
-      by-line a (no z) = by-size (record { accepted = a; line = has-line a z }) (decLt 999_999_999_999_999 x) (decLt 999_999_999_999_999 y)
+      by-line a (yes z) = (Refused 21 0 0, NoLine a (λ h. line-found f d subtype n a h z))
+      by-line a (no z) = by-size (record { accepted = a; line = has-line f d subtype n a z }) (decLt 999_999_999_999_999 x) (decLt 999_999_999_999_999 y)
 
       by-verdict : (v : Verdict) → judged f .verdict ≡ v → (c : Correction) × Answers f d subtype n x y c
       by-verdict Judged.Accepted a = by-line a (ℕ-discrete k 0)

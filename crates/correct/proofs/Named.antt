@@ -2,18 +2,17 @@
 use Prim.Native.Nat.{ℕ}
 use mathlib.Core.Path.{_≡_}
 use mathlib.Core.List.{List}
-use native.Mathlib.Omega.{arith}
 use Rattle.judge.specs.Plain.{Whole}
 use Rattle.judge.proofs.Accepted.{accepted-means-no-fault}
 use Rattle.find.specs.declared.Found.the-variants as Answer
-use Rattle.find.specs.Line.{lineOf, foundIn}
-use Rattle.find.proofs.NamedLine.{line-of-named, found-exactly}
+use Rattle.find.specs.Line.{foundIn}
+use Rattle.find.proofs.NamedLine.{found-exactly}
 use Rattle.find.proofs.FoundPart.{found-accepted, found-part}
 use Rattle.correct.specs.declared.Correction.{Correction}
 use Rattle.correct.specs.declared.Correction.the-variants.{Refused}
 use Rattle.correct.specs.Correction.{sectionOf, replaced, refreshed, tried, bytesAfter, correctionOf, correctedBytes}
 use Rattle.correct.specs.Writing.{KthLine}
-use Rattle.correct.proofs.Split.{line-splits, within-table}
+use Rattle.correct.proofs.Split.{line-splits, line-found, within-table}
 
 module _ (f : List ℕ) (d subtype n : ℕ) where
   -- A line that is found is a record of a flow of whole records, and its section is in the table.
@@ -21,9 +20,8 @@ module _ (f : List ℕ) (d subtype n : ℕ) where
   found-line k e =
       let a = found-accepted f d subtype n k e in
       let w = accepted-means-no-fault f a .whole in
-      let h = found-exactly f d subtype n k a .0 e in
       let r = found-part f d subtype n k e in
-      let z : lineOf f d subtype n ≡ 0 → ⊥ = λ q. omega (arith, line-of-named f d subtype n k a h, h .counted) in
+      let z = line-found f d subtype n a (k, found-exactly f d subtype n k a .0 e) in
       (w, record { counted = r .counted; within = r .within; section = within-table f (w .even) (line-splits f d subtype n z) })
 
   module _ (x y : ℕ) where

@@ -26,9 +26,8 @@ use Rattle.rebalance.proofs.Judged.{accepted-mends}
 use Rattle.rebalance.proofs.Weighed.{mendable-positive, negative-append, neither}
 use Rattle.find.specs.Line.{lineOf}
 use Rattle.correct.specs.Correction.{sectionOf}
-use Rattle.correct.specs.Effect.{withAmounts}
-use Rattle.correct.specs.WhenRefused.{Negative}
-use Rattle.correct.proofs.Split.{Split, line-splits}
+use Rattle.correct.specs.WhenRefused.{HasLine, Negative, newRecords}
+use Rattle.correct.proofs.Split.{Split, line-splits, line-found}
 use Rattle.correct.proofs.OtherSums.{next-delega}
 use Rattle.correct.proofs.InOrder.{line-kind, records-new, each-behind, each-new, opened, one-at-least, ends-behind, ends-new, closing-new}
 
@@ -55,9 +54,12 @@ negative-closing d n a b (r ∷ rs) e c h w q = go (move-of n b c r (h .0)) (λ 
     go (Keeps k m i) f = rw (k (λ j. 0) 0 (eqb (b .deleghe) d) .2, k (λ j. 0) 0 (ltb (b .money .delega .all .debit) (b .money .delega .all .credit)) .2) (f i)
 
 -- An accepted flow in which the line is found, and other amounts for it.
-module _ (f : List ℕ) (d subtype n : ℕ) (a : judged f .verdict ≡ Accepted) (found : lineOf f d subtype n ≡ 0 → ⊥) (x y : ℕ) where
+module _ (f : List ℕ) (d subtype n : ℕ) (a : judged f .verdict ≡ Accepted) (there : HasLine f d subtype n) (x y : ℕ) where
   abbrev rs : List (List ℕ)
-  rs = recordsOf (withAmounts f d subtype n x y)
+  rs = newRecords f d subtype n x y
+
+  abbrev found : lineOf f d subtype n ≡ 0 → ⊥
+  found = line-found f d subtype n a there
 
   abbrev p : Split d (sectionOf subtype) startState 0 (lineOf f d subtype n) (recordsOf f)
   p = line-splits f d subtype n found
@@ -71,7 +73,7 @@ module _ (f : List ℕ) (d subtype n : ℕ) (a : judged f .verdict ≡ Accepted)
       (q .0, neither (negativeAt (stateAfter startState (p .before)) (kindIn (p .here))) _ (q .1) .1)
 
   -- 14 is the test of the line's own delega.
-  pub negative-test : anyNegative startState rs ≡ ltb (Delega.linesOf d Debit rs) (Delega.linesOf d Credit rs)
+  negative-test : anyNegative startState rs ≡ ltb (Delega.linesOf d Debit rs) (Delega.linesOf d Credit rs)
   unfolding anyNegative
   negative-test =
       let o = old-positive in
@@ -83,5 +85,5 @@ module _ (f : List ℕ) (d subtype n : ℕ) (a : judged f .verdict ≡ Accepted)
       ∙ (ap (λ (t : DelegaSums). ltb (t .all .debit) (t .all .credit)) (sym (closing-new f d subtype n a found x y)) ∙ ap₂ ltb (c Debit) (c Credit))))
 
   -- "delega negative": of the flow with the line's amounts replaced, only the line's own delega can be.
-  pub only-own-delega-negative : (anyNegative startState rs ≡ true) ↔ Negative d rs
+  pub only-own-delega-negative : (anyNegative startState (newRecords f d subtype n x y) ≡ true) ↔ Negative d (newRecords f d subtype n x y)
   only-own-delega-negative = (λ e. ltb-true _ _ (sym negative-test ∙ e), λ h. negative-test ∙ lt-ltb _ _ h)

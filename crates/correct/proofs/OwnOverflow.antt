@@ -31,10 +31,9 @@ use Rattle.rebalance.proofs.Judged.{accepted-mends}
 use Rattle.rebalance.proofs.Weighed.{fits-append}
 use Rattle.find.specs.Line.{lineOf}
 use Rattle.correct.specs.Correction.{sectionOf}
-use Rattle.correct.specs.Effect.{withAmounts}
-use Rattle.correct.specs.WhenRefused.{Overflows, TotalDebit, TotalCredit, SectionBalance, FinalBalance, TailSum}
+use Rattle.correct.specs.WhenRefused.{HasLine, newRecords, Overflows, TotalDebit, TotalCredit, SectionBalance, FinalBalance, TailSum}
 use Rattle.correct.proofs.Amended.{amended}
-use Rattle.correct.proofs.Split.{Split, line-splits, within-table}
+use Rattle.correct.proofs.Split.{Split, line-splits, line-found, within-table}
 use Rattle.correct.proofs.OtherSums.{off-line}
 use Rattle.correct.proofs.InOrder.{line-kind, records-new, each-behind, each-new, one-at-least, last-new, ends-behind, ends-new, closing-new}
 use Rattle.correct.proofs.TailSum.{tail-total}
@@ -67,9 +66,12 @@ row-holds true t e =
 row-holds false t e = record { totals = λ z. absurd (false≢true z); balance = leb-true _ _ e }
 
 -- An accepted flow in which the line is found, and other amounts for it with which no delega is negative.
-module _ (f : List ℕ) (d subtype n : ℕ) (a : judged f .verdict ≡ Accepted) (found : lineOf f d subtype n ≡ 0 → ⊥) (x y : ℕ) (positive : anyNegative startState (recordsOf (withAmounts f d subtype n x y)) ≡ false) where
+module _ (f : List ℕ) (d subtype n : ℕ) (a : judged f .verdict ≡ Accepted) (there : HasLine f d subtype n) (x y : ℕ) (positive : anyNegative startState (newRecords f d subtype n x y) ≡ false) where
   abbrev rs : List (List ℕ)
-  rs = recordsOf (withAmounts f d subtype n x y)
+  rs = newRecords f d subtype n x y
+
+  abbrev found : lineOf f d subtype n ≡ 0 → ⊥
+  found = line-found f d subtype n a there
 
   abbrev s : ℕ
   s = sectionOf subtype
@@ -169,7 +171,7 @@ module _ (f : List ℕ) (d subtype n : ℕ) (a : judged f .verdict ≡ Accepted)
       go false t u true true true i j k l m o q = absurd (true≢false q)
 
   -- "a new stored total, balance or sum has more digits than its field": of the flow with the line's amounts replaced, only these can.
-  pub only-these-can-overflow : (allFit startState rs ≡ false) ↔ Overflows d s rs
+  pub only-these-can-overflow : (allFit startState (newRecords f d subtype n x y) ≡ false) ↔ Overflows d (sectionOf subtype) (newRecords f d subtype n x y)
   only-these-can-overflow = (overflow-told, λ o. go (allFit startState rs) refl (overflow-refused o))
     where
       go : (b : Bool) → allFit startState rs ≡ b → (allFit startState rs ≡ true → ⊥) → allFit startState rs ≡ false

@@ -78,9 +78,9 @@ module _ (f : List ℕ) (d subtype n x y : ℕ) where
       go Judged.Accepted e = absurd (h e)
       go (Judged.Refused m r p) e = ap refusalMade (answered-exactly f d subtype n x y _ .1 (AsFlow e)) ∙ sym (ap refusalOf e)
 
-  -- A correction is made exactly when none of its refusals holds.
-  pub made-exactly-when : (correctionOf f d subtype n x y ≡ Made) ↔ MayBeMade f d subtype n x y
-  made-exactly-when = (λ e. go (answered-exactly f d subtype n x y _ .0 e), λ m. answered-exactly f d subtype n x y _ .1 (IsMade m))
+  -- A correction is answered to be made exactly when none of its refusals holds.
+  pub answered-made : (correctionOf f d subtype n x y ≡ Made) ↔ MayBeMade f d subtype n x y
+  answered-made = (λ e. go (answered-exactly f d subtype n x y _ .0 e), λ m. answered-exactly f d subtype n x y _ .1 (IsMade m))
     where
       go : Answers f d subtype n x y Made → MayBeMade f d subtype n x y
       go (IsMade m) = m
@@ -94,12 +94,12 @@ module _ (f : List ℕ) (d subtype n x y : ℕ) where
   refused-number (TurnsNegative t h) = omega arith
   refused-number (HasNoRoom t o) = omega arith
 
-  -- So a correction has no refusal exactly when it is made.
-  pub no-refusal-exactly-when : (refusalMade (correctionOf f d subtype n x y) ≡ noRefusal) ↔ MayBeMade f d subtype n x y
-  no-refusal-exactly-when = (λ e. go (correctionOf f d subtype n x y) refl e, λ m. ap refusalMade (made-exactly-when .1 m))
+  -- So it has no refusal exactly then.
+  pub made-exactly-when : (refusalMade (correctionOf f d subtype n x y) ≡ noRefusal) ↔ MayBeMade f d subtype n x y
+  made-exactly-when = (λ e. go (correctionOf f d subtype n x y) refl e, λ m. ap refusalMade (answered-made .1 m))
     where
       go : (c : Correction) → correctionOf f d subtype n x y ≡ c → refusalMade (correctionOf f d subtype n x y) ≡ noRefusal → MayBeMade f d subtype n x y
-      go Made q e = made-exactly-when .0 q
+      go Made q e = answered-made .0 q
       go (Refused m r p) q e =
           let z : m ≡ 0 = ap (λ (t : Refusal). t .number) (sym (ap refusalMade q) ∙ e) in
           absurd (omega (arith, refused-number (answered-exactly f d subtype n x y _ .0 q)))

@@ -28,7 +28,7 @@ use Rattle.correct.specs.Effect.{withAmounts, recordNamed, debitOf, cred
 use Rattle.correct.proofs.Amended.{amended, amended-own}
 use Rattle.correct.proofs.Mended.{kept-readable}
 use Rattle.correct.proofs.Split.{Split, line-splits, length-here, within-table, replaced-flat}
-use Rattle.correct.proofs.Conditions.{Passed, made-passed, made-bytes}
+use Rattle.correct.proofs.Conditions.{made-passed, made-bytes}
 use Rattle.correct.proofs.StaysAccepted.{accepted-whole}
 
 -- Records behind others are mended after the state that these lead to.

@@ -18,7 +18,8 @@ use Rattle.rules.specs.declared.Stage.{Stage}
 use Rattle.rules.specs.declared.State.{State}
 use Rattle.rules.specs.State.{startState}
 use Rattle.rules.specs.Step.{nextStage, nextDeleghe, next}
-use Rattle.judge.specs.Flow.{recordsOf}
+use Rattle.judge.specs.declared.Verdict.the-variants.{Accepted}
+use Rattle.judge.specs.Flow.{recordsOf, judged}
 use Rattle.judge.specs.Plain.{stateAfter}
 use Rattle.rebalance.specs.Rebalance.{Sized, flat}
 use Rattle.rebalance.proofs.Written.{both-true}
@@ -26,7 +27,9 @@ use Rattle.rebalance.proofs.Columns.{line-within}
 use Rattle.rebalance.proofs.Flat.{length-flat, records-flat}
 use Rattle.rebalance.proofs.Judged.{sized-records, flat-records}
 use Rattle.find.specs.Line.{isLine, lineFrom, lineOfKind, lineOf}
+use Rattle.find.proofs.NamedLine.{named-line, line-of-named}
 use Rattle.correct.specs.Correction.{sectionOf, replaced}
+use Rattle.correct.specs.WhenRefused.{HasLine}
 use Rattle.correct.proofs.Amended.{amended, credit-room, debit-room, length-amended}
 
 -- The k-th record, counted from the j-th on, is a line of section s in delega d.
@@ -86,6 +89,13 @@ line-splits f d subtype n h = go (sectionKind subtype) h
     go Addressee h = absurd (h refl)
     go Tail h = absurd (h refl)
     go Unknown h = absurd (h refl)
+
+-- In an accepted flow it is the line that is named over the plain records.
+pub line-found : (f : List ℕ) (d subtype n : ℕ) → judged f .verdict ≡ Accepted → HasLine f d subtype n → lineOf f d subtype n ≡ 0 → ⊥
+line-found f d subtype n a h z = omega (arith, line-of-named f d subtype n (h .0) a (h .1), h .1 .counted)
+
+pub has-line : (f : List ℕ) (d subtype n : ℕ) → judged f .verdict ≡ Accepted → (lineOf f d subtype n ≡ 0 → ⊥) → HasLine f d subtype n
+has-line f d subtype n a z = (lineOf f d subtype n, named-line f d subtype n (lineOf f d subtype n) a refl z)
 
 -- The bytes of records one after the other are theirs.
 flat-append : (xs ys : List (List ℕ)) → flat (xs ++ ys) ≡ flat xs ++ flat ys

@@ -1,18 +1,11 @@
 -- Believed by who reads the theorems. The flow with a line's amounts replaced, the amounts that a line has, and what a series of calls leaves.
-use Prim.Native.Nat.{ℕ, _-_, _≤_}
-use mathlib.Core.Path.{_≡_}
-use mathlib.Core.Bool.{true, false}
+use Prim.Native.Nat.{ℕ, _-_}
 use mathlib.Core.List.{List, [], _∷_}
 use lib.ListN.{getD}
 use Rattle.layout.specs.Sections.{sectionAt}
 use Rattle.layout.specs.Fields.{amountAt, valueOf}
-use Rattle.rules.specs.State.{startState}
-use Rattle.rules.specs.Amounts.{lineRight}
-use Rattle.judge.specs.declared.Verdict.the-variants.{Accepted}
-use Rattle.judge.specs.Flow.{recordsOf, judged}
-use Rattle.rebalance.specs.Rebalance.{allFit}
+use Rattle.judge.specs.Flow.{recordsOf}
 use Rattle.find.specs.Line.{lineOf}
-use Rattle.rebalance.specs.Weigh.{anyNegative}
 use Rattle.correct.specs.Correction.{sectionOf, replaced, correctedBytes}
 
 -- The flow with the amounts of the line that is named replaced.
