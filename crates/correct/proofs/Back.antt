@@ -18,17 +18,18 @@ use Rattle.rebalance.specs.Rebalance.{rebalanced, flat, Sized}
 use Rattle.rebalance.proofs.Emit.{emit-plain}
 use Rattle.rebalance.proofs.Rebalanced.{mendable-fits, length-rebalanced, sized-rebalanced, state-rebalanced, rebalanced-append}
 use Rattle.rebalance.proofs.Flat.{records-flat}
-use Rattle.rebalance.proofs.Judged.{sized-records, accepted-untouched}
+use Rattle.rebalance.proofs.Weighed.{mendable-positive}
+use Rattle.rebalance.proofs.Judged.{sized-records, accepted-untouched, accepted-mends}
 use Rattle.find.specs.Line.{lineFrom, lineOfKind, lineOf}
 use Rattle.correct.specs.declared.Correction.the-variants.{Made}
 use Rattle.correct.specs.Correction.{sectionOf, refreshed, correctionOf, correctedBytes}
-use Rattle.correct.specs.Effect.{withAmounts, MayBeMade, debitOf, creditOf}
+use Rattle.correct.specs.Effect.{withAmounts, debitOf, creditOf}
 use Rattle.correct.proofs.Amended.{amended, amended-again, line-amended}
 use Rattle.correct.proofs.Split.{Split, line-splits, parts, length-here, within-table, records-replaced}
-use Rattle.correct.proofs.Conditions.{made-exactly-when, made-bytes}
-use Rattle.correct.proofs.StaysAccepted.{accepted-whole, accepted-mends, amounts-whole, refreshed-accepted, refreshed-length}
+use Rattle.correct.proofs.Conditions.{Passed, made-passed, made-bytes}
+use Rattle.correct.proofs.StaysAccepted.{accepted-whole, amounts-whole, refreshed-accepted, refreshed-length}
 use Rattle.correct.proofs.Rewritten.{AllAlike, alike-rebalanced, alike-around, same-kinds, same-rebalanced, same-negative, same-fits}
-use Rattle.correct.proofs.SameAmounts.{mendable-positive, Own, own}
+use Rattle.correct.proofs.SameAmounts.{Own, own}
 
 -- A line is found by the kinds of the records.
 line-by-kinds : (d s n : ℕ) (p : Stage) (e j : ℕ) (xs ys : List (List ℕ)) → map kindIn xs ≡ map kindIn ys → lineFrom d s n p e j xs ≡ lineFrom d s n p e j ys
@@ -59,7 +60,7 @@ line-same f g d subtype n e = go (sectionKind subtype)
     go Unknown = refl
 
 -- A correction that may be made, and the flow that it leaves.
-module _ (f : List ℕ) (d subtype n x y : ℕ) (m : MayBeMade f d subtype n x y) where
+module _ (f : List ℕ) (d subtype n x y : ℕ) (m : Passed f d subtype n x y) where
   -- The line's section and record, its place among the records, the flow with its amounts replaced, and that flow refreshed.
   abbrev s : ℕ
   s = sectionOf subtype
@@ -150,7 +151,7 @@ module _ (f : List ℕ) (d subtype n x y : ℕ) (m : MayBeMade f d subtype n x y
       (alike-around (alike-rebalanced startState (p .before) (parts f (w .even) p .0)) (p .here) (alike-rebalanced (next st line) (p .behind) (parts f (w .even) p .1 .1)))
 
   -- The old amounts may be put back.
-  back-may : MayBeMade g d subtype n u v
+  back-may : Passed g d subtype n u v
   back-may =
       record {
         accepted = ap (λ (j : Judgement). j .verdict) (refreshed-accepted f d subtype n x y m);
@@ -165,13 +166,13 @@ module _ (f : List ℕ) (d subtype n x y : ℕ) (m : MayBeMade f d subtype n x y
   -- That restores the flow.
   back-flow : refreshed (withAmounts g d subtype n u v) ≡ f
   unfolding refreshed
-  back-flow = ap flat (same-rebalanced back-alike startState) ∙ accepted-untouched f (w .short) (w .some) (w .even) (m .accepted)
+  back-flow = ap flat (same-rebalanced back-alike startState) ∙ accepted-untouched f (m .accepted)
 
 -- After a correction that is made, one back to the old amounts is made, and restores every byte.
 pub correct-back : (f : List ℕ) (d subtype n x y : ℕ) → correctionOf f d subtype n x y ≡ Made →
     (correctionOf (correctedBytes f d subtype n x y) d subtype n (debitOf f d subtype n) (creditOf f d subtype n) ≡ Made)
     × (correctedBytes (correctedBytes f d subtype n x y) d subtype n (debitOf f d subtype n) (creditOf f d subtype n) ≡ f)
 correct-back f d subtype n x y made =
-    let m = made-exactly-when f d subtype n x y .0 made in
-    let again = made-exactly-when (refreshed (withAmounts f d subtype n x y)) d subtype n (debitOf f d subtype n) (creditOf f d subtype n) .1 (back-may f d subtype n x y m) in
+    let m = made-passed f d subtype n x y .0 made in
+    let again = made-passed (refreshed (withAmounts f d subtype n x y)) d subtype n (debitOf f d subtype n) (creditOf f d subtype n) .1 (back-may f d subtype n x y m) in
     rw (made-bytes f d subtype n x y made) (again, made-bytes _ d subtype n _ _ again ∙ back-flow f d subtype n x y m)

@@ -10,3 +10,11 @@ pub mod OtherSums
 pub mod OnlyNamed
 pub mod Undone
 pub mod Named
+pub mod InOrder
+pub mod OwnNegative
+pub mod TailSum
+pub mod WithinDelega
+pub mod OwnFits
+pub mod OwnOverflow
+pub mod Answered
+pub mod Refusals

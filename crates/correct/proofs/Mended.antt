@@ -5,58 +5,28 @@ use mathlib.Core.Bool.{Bool, true, false, cond}
 use mathlib.Core.List.{List, [], _∷_, _++_}
 use lib.Dec.{eqb, lit≤}
 use lib.ListN.{length}
-use Rattle.text.specs.declared.Characters.{Characters}
-use Rattle.text.specs.declared.Characters.the-variants.{Allowed, BadAt}
 use Rattle.text.specs.declared.Digits.the-variants.{Number}
 use Rattle.text.specs.Characters.{firstBad}
 use Rattle.text.specs.Numbers.{numberOf}
 use Rattle.layout.specs.declared.Kind.{Kind}
 use Rattle.layout.specs.declared.Kind.the-variants.{Head, Taxpayer, Domicile, Line, Balance, Payment, Receipt, Addressee, Tail, Unknown}
 use Rattle.layout.specs.Sections.{sectionAt}
-use Rattle.layout.specs.Kinds.{typeIn, kindIn}
+use Rattle.layout.specs.Kinds.{kindIn}
 use Rattle.layout.specs.Fields.{amountAt, delegaNumber, bytesOf, valueOf}
 use Rattle.rules.specs.declared.Sums.{Sums}
 use Rattle.rules.specs.declared.State.{State}
-use Rattle.rules.specs.declared.Outcome.{Outcome}
 use Rattle.rules.specs.declared.Outcome.the-variants.{Pass, Fault}
-use Rattle.rules.specs.Order.{first, standing}
 use Rattle.rules.specs.Amounts.{lineRight, lineFault}
 use Rattle.rules.specs.Stored.{storedOf}
-use Rattle.rules.specs.Checks.{charFault, badFields, numberFault, negativeFault, ownFault}
+use Rattle.rules.specs.Checks.{charFault, badFields, negativeFault, ownFault}
 use Rattle.rules.specs.Step.{nextStage, nextDeleghe, nextOf, next}
-use Rattle.rebalance.specs.Rebalance.{fitsAll, allFit, keptFields, keptFault, Mendable}
+use Rattle.rebalance.specs.Rebalance.{fitsAll, allFit, keptFault, Mendable}
 use Rattle.rebalance.proofs.Written.{both-true, digits-pass}
 use Rattle.rebalance.proofs.Columns.{line-within}
+use Rattle.rebalance.proofs.Emit.{kept-each, kept-all, allowed-of}
+use Rattle.rebalance.proofs.Weighed.{neither}
 use Rattle.rebalance.specs.Weigh.{negativeAt, anyNegative}
 use Rattle.correct.proofs.Amended.{amended, length-amended, amended-part, type-amended, kind-amended, allowed-amended, debit-amended, credit-amended, line-amended}
-
--- The checks that rebalancing leaves alone, one by one.
-pub record Kept (name : List ℕ) (st : State) (r : List ℕ) : Type 0 where
-  pub characters : charFault (firstBad r) ≡ Pass
-  pub order : standing (st .stage) (typeIn r) (kindIn r) ≡ Pass
-  pub digits : badFields (keptFields (kindIn r)) r ≡ Pass
-  pub number : numberFault (st .deleghe) (kindIn r) (valueOf r delegaNumber) ≡ Pass
-  pub own : ownFault name st (kindIn r) r ≡ Pass
-
--- Checks that pass together pass each.
-first-pass : (a b : Outcome) → first a b ≡ Pass → (a ≡ Pass) × (b ≡ Pass)
-first-pass Pass b e = (refl, e)
-first-pass (Fault n p) b e = (e, cc)
-
--- Where they pass together, each passes.
-pub kept-each : (name : List ℕ) (st : State) (r : List ℕ) → keptFault name st r ≡ Pass → Kept name st r
-unfolding keptFault
-kept-each name st r e =
-    let a = first-pass (charFault (firstBad r)) _ e in
-    let b = first-pass (standing (st .stage) (typeIn r) (kindIn r)) _ (a .1) in
-    let c = first-pass (badFields (keptFields (kindIn r)) r) _ (b .1) in
-    let d = first-pass (numberFault (st .deleghe) (kindIn r) (valueOf r delegaNumber)) _ (c .1) in
-    record { characters = a .0; order = b .0; digits = c .0; number = d .0; own = d .1 }
-
--- Where each passes, they pass together.
-kept-all : (name : List ℕ) (st : State) (r : List ℕ) → Kept name st r → keptFault name st r ≡ Pass
-unfolding keptFault
-kept-all name st r k = rw (k .characters, k .order, k .digits, k .number, k .own)
 
 -- Two states that differ in money only.
 pub record Near (a b : State) : Type 0 where
@@ -83,11 +53,6 @@ own-near name a b Addressee r h e = e
 own-near name a b Tail r h e = e
 own-near name a b Unknown r h e = e
 
--- Where neither of two tests holds, each fails.
-neither : (a b : Bool) → cond a true b ≡ false → (a ≡ false) × (b ≡ false)
-neither true b e = (e, cc)
-neither false b e = (refl, e)
-
 -- Records that rebalancing mends after one state, it mends after another that differs in money only, where no delega is negative and all fits.
 mended-near : (name : List ℕ) (a b : State) (rs : List (List ℕ)) → Near a b → Mendable name a rs → anyNegative b rs ≡ false → allFit b rs ≡ true → Mendable name b rs
 unfolding anyNegative allFit next
@@ -101,11 +66,6 @@ mended-near name a b (r ∷ rs) n m p f =
       v .0,
       mended-near name (next a r) (next b r) rs (near-on a b (kindIn r) _ _ n) (m .3) (u .1) (v .1),
     )
-
--- A record that has no character fault is made of characters.
-allowed-of : (c : Characters) → charFault c ≡ Pass → c ≡ Allowed
-allowed-of Allowed e = refl
-allowed-of (BadAt i) e = cc
 
 -- A line that has no fault of amounts keeps the line rule.
 right-of : (s x y : ℕ) → lineFault s x y ≡ Pass → lineRight s x y ≡ true

@@ -22,7 +22,7 @@ use Rattle.layout.specs.Kinds.{kindIn}
 use Rattle.layout.specs.Fields.{amountAt, delegaNumber, finalBalance, tailSum, valueOf}
 use Rattle.rules.specs.declared.Sums.{Sums}
 use Rattle.rules.specs.declared.State.{State}
-use Rattle.rules.specs.declared.Outcome.the-variants.{Pass, Fault}
+use Rattle.rules.specs.declared.Outcome.the-variants.{Pass}
 use Rattle.rules.specs.State.{startState}
 use Rattle.rules.specs.Stored.{Stored, sectionSums, storedOf}
 use Rattle.rules.specs.Checks.{carried, numberFault, fault}
@@ -30,20 +30,20 @@ use Rattle.rules.specs.Step.{next}
 use Rattle.judge.specs.Flow.{recordsOf, headNameOf}
 use Rattle.judge.specs.Plain.{NoFault, Whole, stateAfter}
 use Rattle.judge.proofs.Accepted.{accepted-means-no-fault}
+use Rattle.delega.proofs.Moves.{carried-number}
 use Rattle.rebalance.specs.Rebalance.{startOf, widthOf, putAll, emit, rebalanced, clear, Sized, flat}
 use Rattle.rebalance.proofs.Columns.{line-within, Storing, plain, balance, payment, tail, storing}
-use Rattle.rebalance.proofs.Emit.{emit-same-stored, emit-plain, emit-outside, fault-kept, emit-own}
+use Rattle.rebalance.proofs.Emit.{kept-each, emit-same-stored, emit-plain, emit-outside, fault-kept, emit-own}
 use Rattle.rebalance.proofs.Rebalanced.{sized-rebalanced}
 use Rattle.rebalance.proofs.Judged.{sized-records, flat-records}
 use Rattle.find.specs.Line.{lineOf}
 use Rattle.correct.specs.declared.Correction.the-variants.{Made}
 use Rattle.correct.specs.Correction.{sectionOf, refreshed, correctionOf, correctedBytes}
-use Rattle.correct.specs.Effect.{withAmounts, MayBeMade}
+use Rattle.correct.specs.Effect.{withAmounts}
 use Rattle.correct.specs.Touched.{lineColumns, signAndBalance, balanceColumns, storedColumns, inAny, mayTouch}
 use Rattle.correct.proofs.Amended.{amended, credit-room, debit-room, line-amended}
-use Rattle.correct.proofs.Mended.{kept-each}
 use Rattle.correct.proofs.Split.{Split, line-splits, records-replaced}
-use Rattle.correct.proofs.Conditions.{made-exactly-when, made-bytes}
+use Rattle.correct.proofs.Conditions.{Passed, made-passed, made-bytes}
 use Rattle.correct.proofs.StaysAccepted.{accepted-whole, amounts-whole}
 use Rattle.correct.proofs.Rewritten.{row}
 use Rattle.correct.proofs.OtherSums.{Off, blank-at, off-on, off-line}
@@ -106,15 +106,6 @@ balance-covers : (s : ℕ) (x : Sums) (t : Bool) → Covers (cond t (amountAt (s
 balance-covers s x true = (refl, omega arith, (refl, omega arith, (refl, refl, (refl, omega arith, tt))))
 balance-covers s x false = (refl, refl, (refl, omega arith, tt))
 
--- A record that passes its check on the delega number carries it.
-carried-same : (e n : ℕ) → carried e n ≡ Pass → n ≡ e
-unfolding carried
-carried-same e n h = go (eqb n e) refl h
-  where
-    go : (t : Bool) → eqb n e ≡ t → cond t Pass (Fault 8 4) ≡ Pass → n ≡ e
-    go true p h = eqb-true n e p
-    go false p h = let z : _≡_ {A = ℕ} 0 1 = cc in absurd (omega arith)
-
 -- The counts in the tail, as they are written.
 abbrev counted : State → List ℕ → List ℕ
 counted st r = putAt 82 (digitsOf 7 (st .seen + 1)) (putAt 45 (digitsOf 7 (st .deleghe)) r)
@@ -145,7 +136,7 @@ module _ (name : List ℕ) (d s : ℕ) (a b : State) (r : List ℕ) (l : length 
 
   -- The sums of its delega are the same, where it carries another number.
   other-delega : carried (a .deleghe) own-number ≡ Pass → (own-number ≡ d → ⊥) → a .money .delega ≡ b .money .delega
-  other-delega p h = o .elsewhere (λ q. h (carried-same _ _ p ∙ q))
+  other-delega p h = o .elsewhere (λ q. h (carried-number _ _ p ∙ q))
 
   -- Outside the columns that may be touched it stays.
   off-byte : {k : Kind} → Storing b k → kindIn r ≡ k → inAny c (storedColumns d s k own-number) ≡ false → getD (emit b r) c 0 ≡ getD r c 0
@@ -200,7 +191,7 @@ all-bytes name d s st (t ∷ xs) r ys z f e n x y zero c h g = ap (λ (u : List 
 all-bytes name d s st (t ∷ xs) r ys z f e n x y (suc q) c h g = all-bytes name d s (next st t) xs r ys (z .1) (f .1) e n x y q c (λ p. h (ap suc p)) (λ p. g (λ u. p (omega arith)))
 
 -- A correction that may be made, and a byte that it may not touch.
-module _ (f : List ℕ) (d subtype n x y : ℕ) (m : MayBeMade f d subtype n x y) (i : ℕ) (h : mayTouch f d subtype n i ≡ false) where
+module _ (f : List ℕ) (d subtype n x y : ℕ) (m : Passed f d subtype n x y) (i : ℕ) (h : mayTouch f d subtype n i ≡ false) where
   abbrev w : Whole f
   w = accepted-whole f (m .accepted)
 
@@ -231,4 +222,4 @@ module _ (f : List ℕ) (d subtype n x y : ℕ) (m : MayBeMade f d subtype n x y
 
 -- A correction that is made leaves every byte outside the columns that it may touch.
 pub only-named-columns : (f : List ℕ) (d subtype n x y : ℕ) → correctionOf f d subtype n x y ≡ Made → (i : ℕ) → mayTouch f d subtype n i ≡ false → getD (correctedBytes f d subtype n x y) i 0 ≡ getD f i 0
-only-named-columns f d subtype n x y e i h = rw (made-bytes f d subtype n x y e) (refreshed-byte f d subtype n x y (made-exactly-when f d subtype n x y .0 e) i h)
+only-named-columns f d subtype n x y e i h = rw (made-bytes f d subtype n x y e) (refreshed-byte f d subtype n x y (made-passed f d subtype n x y .0 e) i h)

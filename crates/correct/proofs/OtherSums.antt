@@ -1,8 +1,9 @@
 -- The sums of two flows that differ in one line: only its section's, its delega's and the flow's differ.
-use Prim.Native.Nat.{ℕ}
+use Prim.Native.Nat.{ℕ, _+_}
 use mathlib.Core.Path.{_≡_, refl, sym, ap, ap₂, _∙_}
 use mathlib.Core.List.{List}
 use native.Mathlib.Decide.{ℕ-discrete}
+use native.Mathlib.Omega.{arith}
 use lib.ListN.{getD, set}
 use lib.Seq.{getD-set-other, set-set, set-comm}
 use Rattle.layout.specs.declared.Kind.{Kind}
@@ -52,7 +53,15 @@ off-money d s n a b Addressee x e f = (e, f)
 off-money d s n a b Tail x e f = (e, f)
 off-money d s n a b Unknown x e f = (e, f)
 
--- So does what the states have in common.
+-- A delega's sums after a record depend on those before it, and not on the rest of the state.
+pub next-delega : (a b : State) (r : List ℕ) → a .money .delega ≡ b .money .delega → next a r .money .delega ≡ next b r .money .delega
+unfolding next
+next-delega a b r e = go (kindIn r) (lineSums (kindIn r) r)
+  where
+    go : (k : Kind) (x : Sums) → nextMoney (a .money) k x .delega ≡ nextMoney (b .money) k x .delega
+    go k x = off-money (nextDeleghe 0 k + 1) 0 0 (a .money) (b .money) k x (ap (λ (t : DelegaSums). set (t .sections) 0 noSums) e) (λ h. e) .1 (λ h. omega arith)
+
+-- What two states have in common stays so after a record.
 pub off-on : (d s : ℕ) (a b : State) (r : List ℕ) → Off d s a b → Off d s (next a r) (next b r)
 unfolding next
 off-on d s a b r o =

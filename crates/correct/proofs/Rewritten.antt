@@ -7,8 +7,6 @@ use native.Mathlib.Omega.{arith}
 use borrow.Author.Tests.{leb-true}
 use lib.Dec.{leb}
 use lib.ListN.{length}
-use Rattle.text.specs.Placing.{putAt}
-use Rattle.text.proofs.Numerals.{length-digits}
 use Rattle.text.proofs.Puts.{length-put, put-over, puts-commute}
 use Rattle.layout.specs.declared.Kind.{Kind}
 use Rattle.layout.specs.declared.Kind.the-variants.{Balance, Payment, Tail}
@@ -17,22 +15,13 @@ use Rattle.layout.specs.Kinds.{kindIn}
 use Rattle.layout.specs.Fields.{amountAt}
 use Rattle.rules.specs.declared.Sums.{Sums}
 use Rattle.rules.specs.declared.State.{State}
-use Rattle.rules.specs.Stored.{Stored, Value, Mark, storedBalance, sectionSums, storedOf}
+use Rattle.rules.specs.Stored.{Stored, Value, storedBalance, sectionSums, storedOf}
 use Rattle.rules.specs.Step.{lineSums, next}
 use Rattle.rebalance.specs.Rebalance.{startOf, widthOf, textOf, putAll, emit, rebalanced, allFit, clear, Sized}
-use Rattle.rebalance.proofs.Written.{both-true, laid}
+use Rattle.rebalance.proofs.Written.{both-true, length-text, put, laid}
 use Rattle.rebalance.proofs.Columns.{Storing, plain, balance, payment, tail, storing, columns}
 use Rattle.rebalance.proofs.Emit.{emit-kind}
 use Rattle.rebalance.specs.Weigh.{anyNegative}
-
--- A stored field has as many bytes as its text.
-length-text : (x : Stored) → length (textOf x) ≡ widthOf x
-length-text (Value n f v) = length-digits _ v
-length-text (Mark n c b) = refl
-
--- A record in which a stored field is written.
-abbrev put : Stored → List ℕ → List ℕ
-put x r = putAt (startOf x) (textOf x) r
 
 -- Stored fields that do not overlap may be written in either order.
 put-past : (x y : Stored) (r : List ℕ) → startOf x + widthOf x ≤ length r → startOf y + widthOf y ≤ length r → cond (leb (startOf x + widthOf x) (startOf y)) true (leb (startOf y + widthOf y) (startOf x)) ≡ true → put x (put y r) ≡ put y (put x r)

@@ -1,65 +1,35 @@
 -- A correction to a line's own amounts is made, and leaves every byte.
 use Prim.Native.Nat.{ℕ, _+_, _-_, _≤_}
-use mathlib.Core.Path.{_≡_, refl, sym, ap, _∙_}
-use mathlib.Core.Bool.{Bool, true, false, cond}
+use mathlib.Core.Path.{_≡_, sym, ap, _∙_}
+use mathlib.Core.Bool.{true}
 use mathlib.Core.List.{List, [], _∷_, _++_}
 use native.Mathlib.Omega.{arith}
-use lib.Dec.{ltb}
 use lib.ListN.{length, getD, drop, length-drop}
 use lib.Seq.{getD-at, length-take-le}
 use Rattle.text.proofs.Numerals.{number-below}
-use Rattle.layout.specs.declared.Kind.{Kind}
-use Rattle.layout.specs.declared.Kind.the-variants.{Head, Taxpayer, Domicile, Line, Balance, Payment, Receipt, Addressee, Tail, Unknown}
 use Rattle.layout.specs.Sections.{sectionAt}
-use Rattle.layout.specs.Kinds.{kindIn}
 use Rattle.layout.specs.Fields.{amountAt, bytesOf, valueOf}
 use Rattle.layout.proofs.Table.{row-rule}
 use Rattle.rules.specs.declared.State.{State}
-use Rattle.rules.specs.declared.Outcome.the-variants.{Pass, Fault}
 use Rattle.rules.specs.State.{startState}
 use Rattle.rules.specs.Amounts.{lineRight}
-use Rattle.rules.specs.Checks.{negativeFault, ownFault}
 use Rattle.rules.specs.Step.{next}
 use Rattle.judge.specs.declared.Verdict.the-variants.{Accepted}
 use Rattle.judge.specs.Flow.{recordsOf, headNameOf, judged}
 use Rattle.judge.specs.Plain.{Whole, stateAfter}
 use Rattle.rebalance.specs.Rebalance.{flat, Mendable}
 use Rattle.rebalance.proofs.Rebalanced.{mendable-fits}
-use Rattle.rebalance.proofs.Judged.{flat-records, accepted-untouched}
+use Rattle.rebalance.proofs.Weighed.{mendable-positive}
+use Rattle.rebalance.proofs.Judged.{flat-records, accepted-untouched, accepted-mends}
 use Rattle.find.specs.Line.{lineOf}
 use Rattle.correct.specs.declared.Correction.the-variants.{Made}
-use Rattle.rebalance.specs.Weigh.{negativeAt, anyNegative}
 use Rattle.correct.specs.Correction.{sectionOf, refreshed, correctionOf, correctedBytes}
 use Rattle.correct.specs.Effect.{withAmounts, recordNamed, debitOf, creditOf}
 use Rattle.correct.proofs.Amended.{amended, amended-own}
-use Rattle.correct.proofs.Mended.{kept-each, kept-readable}
+use Rattle.correct.proofs.Mended.{kept-readable}
 use Rattle.correct.proofs.Split.{Split, line-splits, length-here, within-table, replaced-flat}
-use Rattle.correct.proofs.Conditions.{made-exactly-when, made-bytes}
-use Rattle.correct.proofs.StaysAccepted.{accepted-whole, accepted-mends}
-
--- A record that passes its own rules does not close a negative delega.
-own-positive : (name : List ℕ) (st : State) (k : Kind) (r : List ℕ) → ownFault name st k r ≡ Pass → negativeAt st k ≡ false
-unfolding negativeFault
-own-positive name st Head r e = refl
-own-positive name st Taxpayer r e = refl
-own-positive name st Domicile r e = refl
-own-positive name st (Line s) r e = refl
-own-positive name st (Balance s) r e = refl
-own-positive name st Payment r e = go (ltb (st .money .delega .all .debit) (st .money .delega .all .credit)) e
-  where
-    go : (t : Bool) → cond t (Fault 14 2) Pass ≡ Pass → t ≡ false
-    go true e = cc
-    go false e = refl
-own-positive name st Receipt r e = refl
-own-positive name st Addressee r e = refl
-own-positive name st Tail r e = refl
-own-positive name st Unknown r e = refl
-
--- No delega of records that rebalancing mends is negative.
-pub mendable-positive : (name : List ℕ) (st : State) (rs : List (List ℕ)) → Mendable name st rs → anyNegative st rs ≡ false
-unfolding anyNegative
-mendable-positive name st [] m = refl
-mendable-positive name st (r ∷ rs) m = rw (own-positive name st (kindIn r) r (kept-each name st r (m .1) .own), mendable-positive name (next st r) rs (m .3))
+use Rattle.correct.proofs.Conditions.{made-passed, made-bytes}
+use Rattle.correct.proofs.StaysAccepted.{accepted-whole}
 
 -- Records behind others are mended after the state that these lead to.
 mendable-behind : (name : List ℕ) (st : State) (xs ys : List (List ℕ)) → Mendable name st (xs ++ ys) → Mendable name (stateAfter st xs) ys
@@ -118,11 +88,11 @@ module _ (f : List ℕ) (d subtype n : ℕ) (a : judged f .verdict ≡ Accepted)
   -- A correction to a line's own amounts is made, and leaves every byte.
   pub same-amounts : (correctionOf f d subtype n (debitOf f d subtype n) (creditOf f d subtype n) ≡ Made) × (correctedBytes f d subtype n (debitOf f d subtype n) (creditOf f d subtype n) ≡ f)
   unfolding refreshed
-  same-amounts = (made, made-bytes f d subtype n (debitOf f d subtype n) (creditOf f d subtype n) made ∙ (ap refreshed own-flow ∙ accepted-untouched f (w .short) (w .some) (w .even) a))
+  same-amounts = (made, made-bytes f d subtype n (debitOf f d subtype n) (creditOf f d subtype n) made ∙ (ap refreshed own-flow ∙ accepted-untouched f a))
     where
       made : correctionOf f d subtype n (debitOf f d subtype n) (creditOf f d subtype n) ≡ Made
       made =
-          made-exactly-when f d subtype n _ _ .1
+          made-passed f d subtype n _ _ .1
           (record {
             accepted = a;
             found = h;

@@ -13,12 +13,13 @@ use Rattle.text.specs.Placing.{putAt}
 use Rattle.layout.specs.declared.Kind.{Kind}
 use Rattle.layout.specs.declared.Kind.the-variants.{Head, Taxpayer, Domicile, Line, Balance, Payment, Receipt, Addressee, Tail, Unknown}
 use Rattle.layout.specs.Sections.{sectionAt}
-use Rattle.layout.specs.Kinds.{sectionKind, kindIn}
+use Rattle.layout.specs.Kinds.{ofLine, sectionKind, kindIn}
 use Rattle.rules.specs.declared.Stage.{Stage}
 use Rattle.rules.specs.declared.State.{State}
 use Rattle.rules.specs.State.{startState}
 use Rattle.rules.specs.Step.{nextStage, nextDeleghe, next}
-use Rattle.judge.specs.Flow.{recordsOf}
+use Rattle.judge.specs.declared.Verdict.the-variants.{Accepted}
+use Rattle.judge.specs.Flow.{recordsOf, judged}
 use Rattle.judge.specs.Plain.{stateAfter}
 use Rattle.rebalance.specs.Rebalance.{Sized, flat}
 use Rattle.rebalance.proofs.Written.{both-true}
@@ -26,7 +27,9 @@ use Rattle.rebalance.proofs.Columns.{line-within}
 use Rattle.rebalance.proofs.Flat.{length-flat, records-flat}
 use Rattle.rebalance.proofs.Judged.{sized-records, flat-records}
 use Rattle.find.specs.Line.{isLine, lineFrom, lineOfKind, lineOf}
-use Rattle.correct.specs.Correction.{sectionOfKind, sectionOf, replaced}
+use Rattle.find.proofs.NamedLine.{named-line, line-of-named}
+use Rattle.correct.specs.Correction.{sectionOf, replaced}
+use Rattle.correct.specs.WhenRefused.{HasLine}
 use Rattle.correct.proofs.Amended.{amended, credit-room, debit-room, length-amended}
 
 -- The k-th record, counted from the j-th on, is a line of section s in delega d.
@@ -75,7 +78,7 @@ pub line-splits : (f : List ℕ) (d subtype n : ℕ) → (lineOf f d subtype n �
 unfolding lineOf startState
 line-splits f d subtype n h = go (sectionKind subtype) h
   where
-    go : (k : Kind) → (lineOfKind d k n f ≡ 0 → ⊥) → Split d (sectionOfKind k) startState 0 (lineOfKind d k n f) (recordsOf f)
+    go : (k : Kind) → (lineOfKind d k n f ≡ 0 → ⊥) → Split d (ofLine 5 (λ s. s) k) startState 0 (lineOfKind d k n f) (recordsOf f)
     go Head h = absurd (h refl)
     go Taxpayer h = absurd (h refl)
     go Domicile h = absurd (h refl)
@@ -86,6 +89,13 @@ line-splits f d subtype n h = go (sectionKind subtype) h
     go Addressee h = absurd (h refl)
     go Tail h = absurd (h refl)
     go Unknown h = absurd (h refl)
+
+-- In an accepted flow it is the line that is named over the plain records.
+pub line-found : (f : List ℕ) (d subtype n : ℕ) → judged f .verdict ≡ Accepted → HasLine f d subtype n → lineOf f d subtype n ≡ 0 → ⊥
+line-found f d subtype n a h z = omega (arith, line-of-named f d subtype n (h .0) a (h .1), h .1 .counted)
+
+pub has-line : (f : List ℕ) (d subtype n : ℕ) → judged f .verdict ≡ Accepted → (lineOf f d subtype n ≡ 0 → ⊥) → HasLine f d subtype n
+has-line f d subtype n a z = (lineOf f d subtype n, named-line f d subtype n (lineOf f d subtype n) a refl z)
 
 -- The bytes of records one after the other are theirs.
 flat-append : (xs ys : List (List ℕ)) → flat (xs ++ ys) ≡ flat xs ++ flat ys

@@ -13,21 +13,20 @@ use Rattle.judge.specs.declared.Verdict.the-variants.{Accepted}
 use Rattle.judge.specs.declared.Judgement.{Judgement}
 use Rattle.judge.specs.Flow.{acceptedWith, recordsOf, headNameOf, judged}
 use Rattle.judge.specs.Plain.{Whole, stateAfter}
-use Rattle.judge.proofs.Accepted.{judged-whole, accepted-means-no-fault}
+use Rattle.judge.proofs.Accepted.{accepted-means-no-fault}
 use Rattle.rebalance.specs.Rebalance.{flat, Mendable}
 use Rattle.rebalance.proofs.Emit.{kept-stands}
-use Rattle.rebalance.proofs.Rebalanced.{accepted-mendable}
 use Rattle.rebalance.proofs.Flat.{name-in-front}
-use Rattle.rebalance.proofs.Judged.{sized-records, flat-records, length-mended, judged-rebalanced}
+use Rattle.rebalance.proofs.Judged.{flat-records, length-mended, judged-rebalanced, accepted-mends}
 use Rattle.find.specs.Line.{lineOf}
 use Rattle.correct.specs.declared.Correction.{Correction}
 use Rattle.correct.specs.declared.Correction.the-variants.{Made, Refused}
 use Rattle.correct.specs.Correction.{sectionOf, refreshed, correctionOf, correctedBytes}
-use Rattle.correct.specs.Effect.{withAmounts, MayBeMade, Call, after}
+use Rattle.correct.specs.Effect.{withAmounts, Call, after}
 use Rattle.correct.proofs.Amended.{amended}
 use Rattle.correct.proofs.Mended.{mended-amended}
 use Rattle.correct.proofs.Split.{Split, line-splits, replaced-flat, records-replaced, length-replaced}
-use Rattle.correct.proofs.Conditions.{made-exactly-when, made-bytes, refused-untouched}
+use Rattle.correct.proofs.Conditions.{Passed, made-passed, made-bytes, refused-untouched}
 
 -- A line does not come first, so a record in its place leaves the name of the flow.
 name-behind : (name : List ℕ) (xs : List (List ℕ)) (r t : List ℕ) (ys : List (List ℕ)) (s : ℕ) → kindIn r ≡ Line s → Mendable name startState (xs ++ (r ∷ ys)) → headNameOf (flat (xs ++ (t ∷ ys))) ≡ headNameOf (flat (xs ++ (r ∷ ys)))
@@ -40,11 +39,8 @@ module _ (f : List ℕ) (a : judged f .verdict ≡ Accepted) where
   pub accepted-whole : Whole f
   accepted-whole = accepted-means-no-fault f a .whole
 
-  pub accepted-mends : Mendable (headNameOf f) startState (recordsOf f)
-  accepted-mends = accepted-mendable _ startState (recordsOf f) (sized-records f (accepted-whole .even)) (ap (λ (j : Judgement). j .verdict) (sym (judged-whole f accepted-whole)) ∙ a)
-
 -- A correction that may be made.
-module _ (f : List ℕ) (d subtype n x y : ℕ) (m : MayBeMade f d subtype n x y) where
+module _ (f : List ℕ) (d subtype n x y : ℕ) (m : Passed f d subtype n x y) where
   -- The flow is of whole records, the line splits them, and its amounts are replaced.
   abbrev w : Whole f
   w = accepted-whole f (m .accepted)
@@ -87,7 +83,7 @@ module _ (f : List ℕ) (d subtype n x y : ℕ) (m : MayBeMade f d subtype n x y
   -- The refreshed flow is accepted, with the sums of its lines.
   pub refreshed-accepted : judged (refreshed t) ≡ acceptedWith (stateAfter startState (recordsOf t))
   unfolding refreshed
-  refreshed-accepted = judged-rebalanced t (amounts-whole .short) (amounts-whole .some) (amounts-whole .even) (rw same-name new-mends)
+  refreshed-accepted = judged-rebalanced t amounts-whole (rw same-name new-mends)
 
   -- It has as many bytes.
   pub refreshed-length : length (refreshed t) ≡ length f
@@ -99,12 +95,12 @@ pub corrected-length : (f : List ℕ) (d subtype n x y : ℕ) → length (correc
 corrected-length f d subtype n x y = go (correctionOf f d subtype n x y) refl
   where
     go : (c : Correction) → correctionOf f d subtype n x y ≡ c → length (correctedBytes f d subtype n x y) ≡ length f
-    go Made e = ap length (made-bytes f d subtype n x y e) ∙ refreshed-length f d subtype n x y (made-exactly-when f d subtype n x y .0 e)
+    go Made e = ap length (made-bytes f d subtype n x y e) ∙ refreshed-length f d subtype n x y (made-passed f d subtype n x y .0 e)
     go (Refused _ _ _) e = ap length (refused-untouched f d subtype n x y e)
 
 -- A corrected flow is accepted, with the sums of its lines.
 pub corrected-accepted : (f : List ℕ) (d subtype n x y : ℕ) → correctionOf f d subtype n x y ≡ Made → judged (correctedBytes f d subtype n x y) ≡ acceptedWith (stateAfter startState (recordsOf (withAmounts f d subtype n x y)))
-corrected-accepted f d subtype n x y e = ap judged (made-bytes f d subtype n x y e) ∙ refreshed-accepted f d subtype n x y (made-exactly-when f d subtype n x y .0 e)
+corrected-accepted f d subtype n x y e = ap judged (made-bytes f d subtype n x y e) ∙ refreshed-accepted f d subtype n x y (made-passed f d subtype n x y .0 e)
 
 -- A call leaves an accepted flow accepted, made or refused.
 one-stays-accepted : (f : List ℕ) (d subtype n x y : ℕ) → judged f .verdict ≡ Accepted → judged (correctedBytes f d subtype n x y) .verdict ≡ Accepted

@@ -1,8 +1,8 @@
 -- What the writing of a line's amounts leaves in the flow, and how it is undone.
-use Prim.Native.Nat.{ℕ, _+_, _-_, _*_, _/_, _%_, _^_, _<_, _≤_}
+use Prim.Native.Nat.{ℕ, _+_, _-_, _*_, _<_, _≤_}
 use mathlib.Core.Path.{_≡_, refl, sym, ap, _∙_}
-use mathlib.Core.Bool.{Bool, true, false, cond}
-use mathlib.Core.List.{List, [], _∷_, _++_}
+use mathlib.Core.Bool.{true, false}
+use mathlib.Core.List.{List}
 use native.Mathlib.Omega.{arith}
 use borrow.Author.Tests.{lt-ltb, le-ltb}
 use lib.ListN.{length, take, drop, replicate, length-drop}
@@ -20,7 +20,6 @@ use Rattle.judge.specs.Flow.{recordsOf}
 use Rattle.judge.specs.Plain.{Whole}
 use Rattle.rebalance.specs.Rebalance.{allFit}
 use Rattle.rebalance.specs.Weigh.{anyNegative}
-use Rattle.correct.specs.declared.Correction.{Correction}
 use Rattle.correct.specs.declared.Correction.the-variants.{Made, Refused}
 use Rattle.correct.specs.Correction.{replaced, weighed, tried}
 use Rattle.correct.specs.Writing.{amountsPut, Room, Fifteen, KthLine}
@@ -43,7 +42,7 @@ copied bs l h e =
 
 module _ (f : List ℕ) (d c : ℕ) (room : Room f d c) where
   -- The bytes of an amount lie within the flow.
-  pub old-length : (m : ℕ) → m ≤ c → length (take 15 (drop m f)) ≡ 15
+  old-length : (m : ℕ) → m ≤ c → length (take 15 (drop m f)) ≡ 15
   old-length m h = length-take-le 15 (drop m f) (let i = room .inside in rw length-drop (omega arith))
 
   module _ (x y : ℕ) where
@@ -124,10 +123,6 @@ module _ (k s x y : ℕ) (f : List ℕ) where
   pub tried-weighed : x ≤ 999_999_999_999_999 → y ≤ 999_999_999_999_999 → lineRight s x y ≡ true → tried k s x y f ≡ weighed (replaced k s x y f)
   unfolding tried
   tried-weighed g h e = rw (le-ltb _ _ g, le-ltb _ _ h, e)
-
-  pub replaced-is : replaced k s x y f ≡ amountsPut ((k - 1) * 120 + sectionAt s .debit) ((k - 1) * 120 + sectionAt s .credit) x y f
-  unfolding replaced amountsPut
-  replaced-is = refl
 
 -- The amounts of a line lie within its record.
 pub line-room : (f : List ℕ) (k s : ℕ) → KthLine f k s → Room f ((k - 1) * 120 + sectionAt s .debit) ((k - 1) * 120 + sectionAt s .credit)

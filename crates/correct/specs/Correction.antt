@@ -2,12 +2,11 @@
 use Prim.Native.Nat.{ℕ, _+_, _-_, _*_}
 use mathlib.Core.Bool.{Bool, true, cond}
 use mathlib.Core.List.{List}
-use lib.Dec.{eqb, ltb}
+use lib.Dec.{ltb}
 use Rattle.text.specs.Numbers.{digitsOf}
 use Rattle.text.specs.Placing.{putAt}
 use Rattle.layout.specs.Sections.{sectionAt}
 use Rattle.layout.specs.Kinds.{ofLine, sectionKind}
-use Rattle.rules.specs.declared.Sums.{Sums}
 use Rattle.rules.specs.State.{startState}
 use Rattle.rules.specs.Amounts.{lineRight}
 use Rattle.judge.specs.Refusal.{Refusal, refusal, noRefusal}

@@ -1,33 +1,16 @@
--- What is shown of corrections: when one is made, the amounts that a line has, and what a series of calls leaves.
-use Prim.Native.Nat.{ℕ, _-_, _≤_}
-use mathlib.Core.Path.{_≡_}
-use mathlib.Core.Bool.{true, false}
+-- Believed by who reads the theorems. The flow with a line's amounts replaced, the amounts that a line has, and what a series of calls leaves.
+use Prim.Native.Nat.{ℕ, _-_}
 use mathlib.Core.List.{List, [], _∷_}
 use lib.ListN.{getD}
 use Rattle.layout.specs.Sections.{sectionAt}
 use Rattle.layout.specs.Fields.{amountAt, valueOf}
-use Rattle.rules.specs.State.{startState}
-use Rattle.rules.specs.Amounts.{lineRight}
-use Rattle.judge.specs.declared.Verdict.the-variants.{Accepted}
-use Rattle.judge.specs.Flow.{recordsOf, judged}
-use Rattle.rebalance.specs.Rebalance.{allFit}
+use Rattle.judge.specs.Flow.{recordsOf}
 use Rattle.find.specs.Line.{lineOf}
-use Rattle.rebalance.specs.Weigh.{anyNegative}
 use Rattle.correct.specs.Correction.{sectionOf, replaced, correctedBytes}
 
 -- The flow with the amounts of the line that is named replaced.
 abbrev pub withAmounts : List ℕ → ℕ → ℕ → ℕ → ℕ → ℕ → List ℕ
 withAmounts f d subtype n debit credit = replaced (lineOf f d subtype n) (sectionOf subtype) debit credit f
-
--- None of the refusals of a correction holds: that of the flow, 21, 22, 9, 14 and 23.
-pub record MayBeMade (f : List ℕ) (d subtype n debit credit : ℕ) : Type 0 where
-  pub accepted : judged f .verdict ≡ Accepted
-  pub found : lineOf f d subtype n ≡ 0 → ⊥
-  pub debit-fits : debit ≤ 999_999_999_999_999
-  pub credit-fits : credit ≤ 999_999_999_999_999
-  pub right : lineRight (sectionOf subtype) debit credit ≡ true
-  pub not-negative : anyNegative startState (recordsOf (withAmounts f d subtype n debit credit)) ≡ false
-  pub all-fits : allFit startState (recordsOf (withAmounts f d subtype n debit credit)) ≡ true
 
 -- The record of the line that is named.
 abbrev pub recordNamed : List ℕ → ℕ → ℕ → ℕ → List ℕ

@@ -1,4 +1,5 @@
 pub mod Correction
 pub mod Effect
+pub mod WhenRefused
 pub mod Touched
 pub mod Writing

@@ -2,4 +2,5 @@ pub mod Search
 pub mod Asked
 pub mod Moves
 pub mod OwnRecords
+pub mod Held
 pub mod PlainAnswer

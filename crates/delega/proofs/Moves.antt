@@ -1,4 +1,4 @@
--- What a record that passes does to the count of deleghe that have their 50-01, and to the sums of the open one.
+-- What a record in its place does to the count of deleghe that have their 50-01, and to the sums of the open one.
 use Prim.Native.Nat.{ℕ, _+_}
 use mathlib.Core.Path.{_≡_, refl, sym, ap, _∙_}
 use mathlib.Core.Bool.{Bool, true, false, cond, false≢true}
@@ -10,20 +10,19 @@ use lib.ListN.{length, length-set}
 use Rattle.text.specs.Characters.{firstBad}
 use Rattle.layout.specs.declared.Kind.{Kind}
 use Rattle.layout.specs.declared.Kind.the-variants.{Head, Taxpayer, Domicile, Line, Balance, Payment, Receipt, Addressee, Tail, Unknown}
-use Rattle.layout.specs.Kinds.{typeIn, kindIn}
+use Rattle.layout.specs.Kinds.{ofLine, ofPayment, typeIn, kindIn}
 use Rattle.layout.specs.Fields.{delegaNumber, fieldsOf, valueOf}
 use Rattle.rules.specs.declared.Sums.{Sums}
 use Rattle.rules.specs.declared.DelegaSums.{DelegaSums}
-use Rattle.rules.specs.declared.Outcome.{Outcome}
 use Rattle.rules.specs.declared.Outcome.the-variants.{Pass, Fault}
 use Rattle.rules.specs.declared.State.{State}
 use Rattle.rules.specs.State.{zeroDelega, startState, atStart, afterHead, afterTaxpayer, afterDomicile, afterLine, afterBalance, afterPayment, afterReceipt, afterAddressee}
-use Rattle.rules.specs.Order.{first, among, stands, standing}
+use Rattle.rules.specs.Order.{among, stands, standing}
 use Rattle.rules.specs.Checks.{charFault, badFields, carried, numberFault, fault}
 use Rattle.rules.specs.Step.{addedAt, lineSums, nextOf, next}
-use Rattle.judge.specs.Plain.{ofLine, ofPayment}
+use Rattle.rules.proofs.FirstFault.{five-pass}
+use Rattle.judge.specs.Plain.{NoFault}
 use Rattle.judge.proofs.Accepted.{right-of}
-use Rattle.delega.specs.OneDelega.{closesAt}
 
 -- a delega is open from its record 10 to its 50-01: 1 where the last record was one of these, else 0
 abbrev pub openAt : ℕ → ℕ
@@ -40,15 +39,25 @@ pub between-start : Between 0 startState
 unfolding startState
 between-start = record { counted = refl; settled = λ z. refl; five = refl }
 
+-- a record may stand where it stands, and carries the number that it should
+pub record Standing (st : State) (r : List ℕ) : Type 0 where
+  pub ordered : stands (st .stage) (kindIn r) ≡ true
+  pub numbered : numberFault (st .deleghe) (kindIn r) (valueOf r delegaNumber) ≡ Pass
+
+-- a fact of each of the records, and of the state that those before it lead to
+abbrev pub Each : (State → List ℕ → Type 0) → State → List (List ℕ) → Type 0
+Each Fact st [] = Unit {0}
+Each Fact st (r ∷ rs) = Fact st r × Each Fact (next st r) rs
+
 -- a record of this kind is neither a line nor a 50-01
 abbrev pub Quiet : Kind → Type 0
-Quiet k = (f : ℕ → ℕ) (m d n : ℕ) → (ofLine f k ≡ 0) × (ofPayment m k ≡ 0) × (closesAt d n k ≡ false)
+Quiet k = (f : ℕ → ℕ) (m : ℕ) (b : Bool) → (ofLine 0 f k ≡ 0) × (ofPayment 0 m k ≡ 0) × (ofPayment false b k ≡ false)
 
 -- a record of kind k that carries v, after n deleghe: a line or the 50-01 of the open delega, whose number is n + 1, or neither
 pub data Move (n : ℕ) (st : State) (k : Kind) (v : ℕ) (on : State) : Type 0 where
   Adds : (s : ℕ) → k ≡ Line s → v ≡ n + 1 → Between n on → Move n st k v on
   Pays : k ≡ Payment → v ≡ n + 1 → st .deleghe ≡ n + 1 → Between (n + 1) on → Move n st k v on
-  Keeps : Quiet k → on .money .delega ≡ st .money .delega → Between n on → Move n st k v on
+  Keeps : Quiet k → on .money ≡ st .money → Between n on → Move n st k v on
 
 -- the phases of a list all have a delega open, or none has
 abbrev EachOpen : ℕ → List ℕ → Type 0
@@ -83,7 +92,7 @@ balance-open p a e = go (eqb p afterLine) refl e
     go false i f = absurd (false≢true f)
 
 -- check 8 passes only where the number is the one that is expected
-carried-number : (d v : ℕ) → carried d v ≡ Pass → v ≡ d
+pub carried-number : (d v : ℕ) → carried d v ≡ Pass → v ≡ d
 unfolding carried
 carried-number d v e = go (eqb v d) refl e
   where
@@ -91,19 +100,17 @@ carried-number d v e = go (eqb v d) refl e
     go true q f = eqb-true v d q
     go false q f = let z : _≡_ {A = ℕ} 0 1 = cc in absurd (omega arith)
 
--- of two outcomes none is a fault where the first fault is none
-first-pass : (a o : Outcome) → first a o ≡ Pass → (a ≡ Pass) × (o ≡ Pass)
-first-pass Pass o e = (refl, e)
-first-pass (Fault n p) o e = (e, cc)
-
--- a record that passes carries the number that it should
-numbered : (name : List ℕ) (st : State) (r : List ℕ) → fault name st r ≡ Pass → numberFault (st .deleghe) (kindIn r) (valueOf r delegaNumber) ≡ Pass
+-- a record that passes stands so
+pub standing-of : (name : List ℕ) (st : State) (r : List ℕ) → fault name st r ≡ Pass → Standing st r
 unfolding fault
-numbered name st r e =
-    let a = first-pass (charFault (firstBad r)) _ e in
-    let b = first-pass (standing (st .stage) (typeIn r) (kindIn r)) _ (a .1) in
-    let c = first-pass (badFields (fieldsOf (kindIn r)) r) _ (b .1) in
-    first-pass (numberFault (st .deleghe) (kindIn r) (valueOf r delegaNumber)) _ (c .1) .0
+standing-of name st r e =
+    let p = five-pass (charFault (firstBad r)) (standing (st .stage) (typeIn r) (kindIn r)) (badFields (fieldsOf (kindIn r)) r) (numberFault (st .deleghe) (kindIn r) (valueOf r delegaNumber)) _ e in
+    record { ordered = right-of name st r e .ordered; numbered = p .3 }
+
+-- so do records without a fault
+pub each-standing : (name : List ℕ) (st : State) (rs : List (List ℕ)) → NoFault name st rs → Each Standing st rs
+each-standing name st [] h = tt
+each-standing name st (r ∷ rs) h = (standing-of name st r (h .0), each-standing name (next st r) rs (h .1))
 
 module _ (n : ℕ) (st : State) (b : Between n st) where
   -- nothing changes that is counted here
@@ -117,28 +124,28 @@ module _ (n : ℕ) (st : State) (b : Between n st) where
 
   move : (k : Kind) (v : ℕ) (x : Sums) → stands (st .stage) k ≡ true → numberFault (st .deleghe) k v ≡ Pass → Move n st k v (nextOf st k x)
   unfolding stands numberFault addedAt
-  move Head v x o c = Keeps (λ f m d i. (refl, refl, refl)) refl (same _ refl refl (sym (ap openAt (eqb-true (st .stage .phase) atStart o))))
+  move Head v x o c = Keeps (λ f m t. (refl, refl, refl)) refl (same _ refl refl (sym (ap openAt (eqb-true (st .stage .phase) atStart o))))
   move Taxpayer v x o c =
       let z = among-open 0 (st .stage .phase) (afterHead ∷ afterPayment ∷ afterReceipt ∷ afterAddressee ∷ []) (refl, (refl, (refl, (refl, tt)))) o in
-      Keeps (λ f m d i. (refl, refl, refl)) (sym (b .settled z)) (record { counted = omega (arith, b .counted); settled = λ y. refl; five = refl })
-  move Domicile v x o c = Keeps (λ f m d i. (refl, refl, refl)) refl (same _ refl refl (sym (ap openAt (eqb-true (st .stage .phase) afterTaxpayer o))))
+      Keeps (λ f m t. (refl, refl, refl)) (ap (λ (t : DelegaSums). record { delega = t; flow = st .money .flow; total = st .money .total }) (sym (b .settled z))) (record { counted = omega (arith, b .counted); settled = λ y. refl; five = refl })
+  move Domicile v x o c = Keeps (λ f m t. (refl, refl, refl)) refl (same _ refl refl (sym (ap openAt (eqb-true (st .stage .phase) afterTaxpayer o))))
   move (Line s) v x o c =
       let z = line-open (st .stage .phase) _ _ o in
       let w = carried-number (st .deleghe) v c in
       Adds s refl (omega (arith, b .counted)) (record { counted = omega (arith, b .counted); settled = λ y. absurd (omega arith); five = simp length-set (b .five) })
-  move (Balance s) v x o c = Keeps (λ f m d i. (refl, refl, refl)) refl (same _ refl refl (sym (balance-open (st .stage .phase) _ o)))
+  move (Balance s) v x o c = Keeps (λ f m t. (refl, refl, refl)) refl (same _ refl refl (sym (balance-open (st .stage .phase) _ o)))
   move Payment v x o c =
       let z = ap openAt (eqb-true (st .stage .phase) afterBalance o) in
       let w = carried-number (st .deleghe) v c in
       Pays refl (omega (arith, b .counted)) (omega (arith, b .counted)) (record { counted = omega (arith, b .counted); settled = λ y. refl; five = refl })
-  move Receipt v x o c = Keeps (λ f m d i. (refl, refl, refl)) refl (same _ refl refl (sym (ap openAt (eqb-true (st .stage .phase) afterPayment o))))
-  move Addressee v x o c = Keeps (λ f m d i. (refl, refl, refl)) refl (same _ refl refl (sym (ap openAt (eqb-true (st .stage .phase) afterReceipt o))))
+  move Receipt v x o c = Keeps (λ f m t. (refl, refl, refl)) refl (same _ refl refl (sym (ap openAt (eqb-true (st .stage .phase) afterPayment o))))
+  move Addressee v x o c = Keeps (λ f m t. (refl, refl, refl)) refl (same _ refl refl (sym (ap openAt (eqb-true (st .stage .phase) afterReceipt o))))
   move Tail v x o c =
-      Keeps (λ f m d i. (refl, refl, refl)) refl
+      Keeps (λ f m t. (refl, refl, refl)) refl
       (same _ refl refl (sym (among-open 0 (st .stage .phase) (afterPayment ∷ afterReceipt ∷ afterAddressee ∷ []) (refl, (refl, (refl, tt))) o)))
   move Unknown v x o c = absurd (false≢true o)
 
-  -- what a record that passes does
-  pub move-of : (name r : List ℕ) → fault name st r ≡ Pass → Move n st (kindIn r) (valueOf r delegaNumber) (next st r)
+  -- what a record that stands so does
+  pub move-of : (r : List ℕ) → Standing st r → Move n st (kindIn r) (valueOf r delegaNumber) (next st r)
   unfolding next
-  move-of name r e = move (kindIn r) (valueOf r delegaNumber) (lineSums (kindIn r) r) (right-of name st r e .ordered) (numbered name st r e)
+  move-of r e = move (kindIn r) (valueOf r delegaNumber) (lineSums (kindIn r) r) (e .ordered) (e .numbered)

@@ -1,68 +1,34 @@
 -- For an accepted flow and a number from 1 to the count: the delega is found, its section sums are those of its lines, and its final balance is that of its 50-01, all its debits less all its credits.
-use Prim.Native.Nat.{ℕ, zero, suc, _+_, _<_, _≤_}
-use mathlib.Core.Path.{_≡_, refl}
+use Prim.Native.Nat.{ℕ, _+_, _<_, _≤_}
+use mathlib.Core.Path.{_≡_, refl, ap, _∙_}
 use mathlib.Core.Bool.{Bool, true, false, cond}
-use mathlib.Core.List.{List}
+use mathlib.Core.List.{List, [], _∷_}
 use native.Mathlib.Omega.{arith}
-use native.Mathlib.Decide.{ℕ-discrete}
-use borrow.Author.Tests.{ltb-false, eqb-true, eq-eqb, ne-eqb}
-use lib.Dec.{eqb}
-use lib.ListN.{length, getD, replicate}
-use lib.Seq.{getD-set-same, getD-set-other}
+use borrow.Author.Tests.{ltb-false, eqb-true}
+use lib.ListN.{length, getD}
 use Rattle.layout.specs.declared.Kind.the-variants.{Line, Payment}
-use Rattle.layout.specs.Kinds.{kindIn}
+use Rattle.layout.specs.Kinds.{ofLine, ofPayment, kindIn}
 use Rattle.layout.specs.Fields.{finalBalance, valueOf}
 use Rattle.rules.specs.declared.Sums.{Sums}
 use Rattle.rules.specs.declared.DelegaSums.{DelegaSums}
 use Rattle.rules.specs.declared.Outcome.the-variants.{Pass, Fault}
 use Rattle.rules.specs.declared.State.{State}
-use Rattle.rules.specs.State.{noSums}
+use Rattle.rules.specs.State.{noSums, zeroDelega, startState}
 use Rattle.rules.specs.Amounts.{finalOf}
-use Rattle.rules.specs.Checks.{negativeFault}
-use Rattle.rules.specs.Step.{added, addedAt, lineSums}
+use Rattle.rules.specs.Checks.{negativeFault, fault}
+use Rattle.rules.specs.Step.{next}
 use Rattle.judge.specs.declared.Verdict.the-variants.{Accepted}
+use Rattle.judge.specs.declared.Judgement.{Judgement}
 use Rattle.judge.specs.Flow.{recordsOf, headNameOf, judged}
-use Rattle.judge.specs.Plain.{ofLine, ofPayment, Side, Debit, Credit, sideOf, columnOf}
-use Rattle.judge.proofs.Accepted.{Right}
-use Rattle.delega.specs.OneDelega.{answered, delegaOf}
-use Rattle.delega.specs.PlainDelega.{sectionOf, linesOf, finalsOf, paymentsOf}
-use Rattle.delega.proofs.Moves.{Quiet}
-use Rattle.delega.proofs.OwnRecords.{withLine, own-records}
-
--- one side of a line's amounts, of added sums, and of zeros
-side-line : (x : Side) (s : ℕ) (r : List ℕ) → sideOf x (lineSums (Line s) r) ≡ valueOf r (columnOf x s)
-side-line Debit s r = refl
-side-line Credit s r = refl
-
-side-added : (x : Side) (t u : Sums) → sideOf x (added t u) ≡ sideOf x t + sideOf x u
-side-added Debit t u = refl
-side-added Credit t u = refl
-
-no-side : (x : Side) (n i : ℕ) → sideOf x (getD (replicate n noSums) i noSums) ≡ 0
-no-side Debit zero i = refl
-no-side Credit zero i = refl
-no-side Debit (suc n) zero = refl
-no-side Credit (suc n) zero = refl
-no-side x (suc n) (suc i) = no-side x n i
-
-none-side : (x : Side) → sideOf x noSums ≡ 0
-none-side Debit = refl
-none-side Credit = refl
-
--- a section's side grows by the lines of that section
-module _ (x : Side) (i : ℕ) (r : List ℕ) where
-  abbrev ofSection : ℕ → ℕ
-  ofSection s = cond (eqb s i) (valueOf r (columnOf x i)) 0
-
-  section-grows : (s : ℕ) (l : List Sums) → i < length l → sideOf x (getD (addedAt l s (lineSums (Line s) r)) i noSums) ≡ sideOf x (getD l i noSums) + ofSection s
-  unfolding addedAt
-  section-grows s l h = go (ℕ-discrete i s)
-    where
-      go : Dec (i ≡ s) → sideOf x (getD (addedAt l s (lineSums (Line s) r)) i noSums) ≡ sideOf x (getD l i noSums) + ofSection s
-      go (yes e) =
-          let k : s < length l = omega arith in
-          rw (e, getD-set-same l s _ noSums k, eq-eqb s s refl) (omega (arith, side-added x (getD l s noSums) (lineSums (Line s) r), side-line x s r))
-      go (no e) = rw (getD-set-other l s i _ noSums e, ne-eqb s i (omega arith)) (omega arith)
+use Rattle.judge.specs.Plain.{sumOver, Side, Debit, Credit, sideOf, columnOf, stateAfter, NoFault}
+use Rattle.judge.proofs.Accepted.{Right, right-of, accepted-means-no-fault, sound-phase, sound-judged}
+use Rattle.delega.specs.declared.DelegaAnswer.{DelegaAnswer}
+use Rattle.delega.specs.OneDelega.{noSuchDelega, answered, closesAt, delegaFrom, delegaOf}
+use Rattle.delega.specs.PlainDelega.{ofDelega, sectionOf, linesOf, finalsOf, paymentsOf}
+use Rattle.delega.proofs.Asked.{delega-within}
+use Rattle.delega.proofs.Moves.{Each, Quiet, standing-of, each-standing}
+use Rattle.delega.proofs.OwnRecords.{withLine, atClosing, Ends, own-records}
+use Rattle.delega.proofs.Held.{none-side, line-all, closing, closing-section}
 
 -- a 50-01 that passes holds the debits less the credits, which are not above them
 cond-true : (b : Bool) (n p : ℕ) → cond b Pass (Fault n p) ≡ Pass → b ≡ true
@@ -81,19 +47,58 @@ module _ (name : List ℕ) (st : State) (r : List ℕ) (k : kindIn r ≡ Payment
   stored-final : valueOf r finalBalance ≡ finalOf (st .money .delega .all)
   stored-final = eqb-true _ _ (cond-true _ 15 36 (rw k at (p .stored)))
 
+-- the search for a delega takes the answer at its 50-01
+delega-from-closing : (d : ℕ) (st : State) (rs : List (List ℕ)) → atClosing noSuchDelega answered d st rs ≡ delegaFrom d st rs
+unfolding delegaFrom atClosing
+delega-from-closing d st [] = refl
+delega-from-closing d st (r ∷ rs) = ap (cond (closesAt d (st .deleghe) (kindIn r)) (answered st)) (delega-from-closing d (next st r) rs)
+
+-- and its sums are those that are held there
+from-sums : (d : ℕ) (st : State) (rs : List (List ℕ)) → delegaFrom d st rs .sums ≡ closing d st rs .sections
+unfolding delegaFrom atClosing
+from-sums d st [] = refl
+from-sums d st (r ∷ rs) = go (closesAt d (st .deleghe) (kindIn r)) (from-sums d (next st r) rs)
+  where
+    go : (b : Bool) → delegaFrom d (next st r) rs .sums ≡ closing d (next st r) rs .sections → cond b (answered st) (delegaFrom d (next st r) rs) .sums ≡ cond b (st .money .delega) (closing d (next st r) rs) .sections
+    go true e = refl
+    go false e = e
+
+-- records without a fault
+each-of : (name : List ℕ) (st : State) (rs : List (List ℕ)) → NoFault name st rs → Each (λ on r. fault name on r ≡ Pass) st rs
+each-of name st [] h = tt
+each-of name st (r ∷ rs) h = (h .0, each-of name (next st r) rs (h .1))
+
 module _ (s : List ℕ) (d : ℕ) (e : judged s .verdict ≡ Accepted) (lo : 1 ≤ d) (hi : d ≤ judged s .summary .deleghe) where
+  -- an accepted flow has that many deleghe, and ends with EF
+  ends : Ends d (stateAfter startState (recordsOf s))
+  ends =
+      let h = accepted-means-no-fault s e in
+      record { tail = sound-phase s h; enough = omega (arith, ap (λ (j : Judgement). j .summary .deleghe) (sound-judged s h)) }
+
+  -- two numbers of the delega's sums, what a record adds to each, and what the answer says of the two
+  answer-by : (D : Side → DelegaSums → ℕ) (g : Side → List ℕ → ℕ) (Says : DelegaAnswer → ℕ → ℕ → Type 0) →
+      ((x : Side) (r : List ℕ) → Quiet (kindIn r) → g x r ≡ 0) → ((x : Side) → D x zeroDelega ≡ 0) →
+      ((x : Side) (t : DelegaSums) (r : List ℕ) (i : ℕ) → kindIn r ≡ Line i → length (t .sections) ≡ 5 → D x (withLine t i r) ≡ D x t + g x r) →
+      ((st : State) (r : List ℕ) → kindIn r ≡ Payment → Right (headNameOf s) st r → (t u : ℕ) →
+      t ≡ D Debit (st .money .delega) + g Debit r → u ≡ D Credit (st .money .delega) + g Credit r → Says (answered st) t u) →
+      Says (delegaOf s d) (sumOver (λ r. ofDelega d r (g Debit r)) (recordsOf s)) (sumOver (λ r. ofDelega d r (g Credit r)) (recordsOf s))
+  answer-by D g Says none blank line pay =
+      rw (delega-within s d e (omega arith) hi, ← (delega-from-closing d startState (recordsOf s)))
+      (own-records noSuchDelega answered d D g Says (λ st r. fault (headNameOf s) st r ≡ Pass) (standing-of (headNameOf s)) none blank line
+      (λ st r k f. pay st r k (right-of (headNameOf s) st r f)) (recordsOf s) lo (each-of (headNameOf s) startState (recordsOf s) (accepted-means-no-fault s e .passes)) ends)
+
   -- what a 50-01 adds: its final balance, and 1
   abbrev ofFinal : Side → List ℕ → ℕ
-  ofFinal Debit r = ofPayment (valueOf r finalBalance) (kindIn r)
-  ofFinal Credit r = ofPayment 1 (kindIn r)
+  ofFinal Debit r = ofPayment 0 (valueOf r finalBalance) (kindIn r)
+  ofFinal Credit r = ofPayment 0 1 (kindIn r)
 
   -- the answer by the delega's 50-01
   by-payment : (delegaOf s d .verdict ≡ Accepted) × (delegaOf s d .balance ≡ finalsOf d (recordsOf s)) × (paymentsOf d (recordsOf s) ≡ 1)
-  by-payment = own-records s d (λ x t. 0) ofFinal (λ a t u. (a .verdict ≡ Accepted) × (a .balance ≡ t) × (u ≡ 1)) none (λ x. refl) line pay e lo hi
+  by-payment = answer-by (λ x t. 0) ofFinal (λ a t u. (a .verdict ≡ Accepted) × (a .balance ≡ t) × (u ≡ 1)) none (λ x. refl) line pay
     where
       none : (x : Side) (r : List ℕ) → Quiet (kindIn r) → ofFinal x r ≡ 0
-      none Debit r q = q (λ i. 0) (valueOf r finalBalance) 0 0 .1
-      none Credit r q = q (λ i. 0) 1 0 0 .1
+      none Debit r q = q (λ i. 0) (valueOf r finalBalance) true .1
+      none Credit r q = q (λ i. 0) 1 true .1
 
       line : (x : Side) (t : DelegaSums) (r : List ℕ) (i : ℕ) → kindIn r ≡ Line i → length (t .sections) ≡ 5 → 0 ≡ 0 + ofFinal x r
       line Debit t r i k l = rw k
@@ -119,33 +124,15 @@ module _ (s : List ℕ) (d : ℕ) (e : judged s .verdict ≡ Accepted) (lo : 1 �
   -- "all its debits less all its credits", over the lines that carry its number
   pub delega-balance-lines : delegaOf s d .balance + linesOf d Credit (recordsOf s) ≡ linesOf d Debit (recordsOf s)
   unfolding finalOf
-  delega-balance-lines = own-records s d (λ x t. sideOf x (t .all)) (λ x r. ofLine (λ i. valueOf r (columnOf x i)) (kindIn r)) (λ a t u. a .balance + u ≡ t) (λ x r q. q _ 0 0 0 .0) none-side line pay e lo hi
+  delega-balance-lines = answer-by (λ x t. sideOf x (t .all)) (λ x r. ofLine 0 (λ i. valueOf r (columnOf x i)) (kindIn r)) (λ a t u. a .balance + u ≡ t) (λ x r q. q _ 0 true .0) none-side (λ x t r i k l. line-all x t r i k) pay
     where
-      line : (x : Side) (t : DelegaSums) (r : List ℕ) (i : ℕ) → kindIn r ≡ Line i → length (t .sections) ≡ 5 → sideOf x (withLine t i r .all) ≡ sideOf x (t .all) + ofLine (λ j. valueOf r (columnOf x j)) (kindIn r)
-      line x t r i k l = rw k (omega (arith, side-added x (t .all) (lineSums (Line i) r), side-line x i r))
-
       pay : (st : State) (r : List ℕ) → kindIn r ≡ Payment → Right (headNameOf s) st r → (t u : ℕ) →
-          t ≡ st .money .delega .all .debit + ofLine (λ i. valueOf r (columnOf Debit i)) (kindIn r) → u ≡ st .money .delega .all .credit + ofLine (λ i. valueOf r (columnOf Credit i)) (kindIn r) →
+          t ≡ st .money .delega .all .debit + ofLine 0 (λ i. valueOf r (columnOf Debit i)) (kindIn r) → u ≡ st .money .delega .all .credit + ofLine 0 (λ i. valueOf r (columnOf Credit i)) (kindIn r) →
           answered st .balance + u ≡ t
       pay st r k p t u a b = omega (arith, rw k at a, rw k at b, not-negative (headNameOf s) st r k p)
 
-  -- the two sides of one section
-  by-section : (i : ℕ) → i < 5 →
-      (getD (delegaOf s d .sums) i noSums .debit ≡ sectionOf d Debit i (recordsOf s)) × (getD (delegaOf s d .sums) i noSums .credit ≡ sectionOf d Credit i (recordsOf s))
-  by-section i h =
-      own-records s d (λ x t. sideOf x (getD (t .sections) i noSums)) (λ x r. ofLine (ofSection x i r) (kindIn r)) (λ a t u. (getD (a .sums) i noSums .debit ≡ t) × (getD (a .sums) i noSums .credit ≡ u))
-      (λ x r q. q _ 0 0 0 .0) (λ x. no-side x 5 i) line pay e lo hi
-    where
-      line : (x : Side) (t : DelegaSums) (r : List ℕ) (j : ℕ) → kindIn r ≡ Line j → length (t .sections) ≡ 5 →
-          sideOf x (getD (withLine t j r .sections) i noSums) ≡ sideOf x (getD (t .sections) i noSums) + ofLine (ofSection x i r) (kindIn r)
-      line x t r j k l = rw k (section-grows x i r j (t .sections) (omega arith))
-
-      pay : (st : State) (r : List ℕ) → kindIn r ≡ Payment → Right (headNameOf s) st r → (t u : ℕ) →
-          t ≡ getD (st .money .delega .sections) i noSums .debit + ofLine (ofSection Debit i r) (kindIn r) → u ≡ getD (st .money .delega .sections) i noSums .credit + ofLine (ofSection Credit i r) (kindIn r) →
-          (getD (answered st .sums) i noSums .debit ≡ t) × (getD (answered st .sums) i noSums .credit ≡ u)
-      pay st r k p t u a b = (omega (arith, rw k at a), omega (arith, rw k at b))
-
   -- "its ten section sums": those of its lines
   pub delega-section-sums : (x : Side) (i : ℕ) → i < 5 → sideOf x (getD (delegaOf s d .sums) i noSums) ≡ sectionOf d x i (recordsOf s)
-  delega-section-sums Debit i h = by-section i h .0
-  delega-section-sums Credit i h = by-section i h .1
+  delega-section-sums x i h =
+      ap (λ (l : List Sums). sideOf x (getD l i noSums)) (ap (λ (a : DelegaAnswer). a .sums) (delega-within s d e (omega arith) hi) ∙ from-sums d startState (recordsOf s))
+      ∙ closing-section d (recordsOf s) lo (each-standing (headNameOf s) startState (recordsOf s) (accepted-means-no-fault s e .passes)) ends x i h

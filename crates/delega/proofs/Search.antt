@@ -1,16 +1,12 @@
 -- The search for one delega: the state that it has come to, and what each of its ways out says of the whole flow.
-use Prim.Native.Nat.{ℕ, suc, _+_, _-_, _*_, _/_, _<_, _≤_}
-use mathlib.Core.Path.{_≡_, refl, sym, ap, _∙_}
+use Prim.Native.Nat.{ℕ, _+_, _-_, _*_, _/_, _<_, _≤_}
+use mathlib.Core.Path.{_≡_, sym, ap, _∙_}
 use mathlib.Core.Bool.{true, false, cond}
-use mathlib.Core.List.{List, [], _∷_}
+use mathlib.Core.List.{List}
 use native.Mathlib.Omega.{arith}
 use native.Mathlib.Nat.{sub-zero}
-use types.Run.{OneOf, miss}
-use denote.Enum.Declared.{tagOf}
 use lib.Dec.{lit<}
 use lib.ListN.{length, take, drop}
-use lib.Seq.{drop-drop}
-use Rattle.layout.proofs.Kind.{the-type}
 use Rattle.layout.specs.declared.Kind.{Kind}
 use Rattle.layout.specs.declared.Kind.the-variants.{Head, Taxpayer, Domicile, Line, Balance, Payment, Receipt, Addressee, Tail, Unknown}
 use Rattle.layout.specs.Kinds.{kindIn}
@@ -20,52 +16,27 @@ use Rattle.rules.specs.Values.{valuesIn}
 use Rattle.rules.specs.Step.{lineSums, nextOf, next}
 use Rattle.rules.proofs.Growth.{start-below, state-on}
 use Rattle.judge.specs.Flow.{chunks, recordsOf, restOf}
+use Rattle.judge.proofs.Records.{chunks-on}
 use Rattle.judge.proofs.Turn.{pair-small}
 use Rattle.delega.specs.declared.DelegaAnswer.{DelegaAnswer}
 use Rattle.delega.specs.OneDelega.{noSuchDelega, answered, closesAt, delegaFrom}
-
--- a record that is no 50-01 closes no delega
-pub no-payment : (k : Kind) → OneOf (0 ∷ 1 ∷ 2 ∷ 3 ∷ 4 ∷ 6 ∷ 7 ∷ 8 ∷ 9 ∷ []) (tagOf the-type k) → (d n : ℕ) → closesAt d n k ≡ false
-no-payment Head t d n = refl
-no-payment Taxpayer t d n = refl
-no-payment Domicile t d n = refl
-no-payment (Line s) t d n = refl
-no-payment (Balance s) t d n = refl
-no-payment Payment t d n = absurd (miss (0 ∷ 1 ∷ 2 ∷ 3 ∷ 4 ∷ 6 ∷ 7 ∷ 8 ∷ 9 ∷ []) 5 tt t)
-no-payment Receipt t d n = refl
-no-payment Addressee t d n = refl
-no-payment Tail t d n = refl
-no-payment Unknown t d n = refl
-
--- a record that is no line has no amounts
-pub no-line : (k : Kind) → OneOf (0 ∷ 1 ∷ 2 ∷ 4 ∷ 5 ∷ 6 ∷ 7 ∷ 8 ∷ 9 ∷ []) (tagOf the-type k) → (r : List ℕ) → lineSums k r ≡ noSums
-no-line Head t r = refl
-no-line Taxpayer t r = refl
-no-line Domicile t r = refl
-no-line (Line s) t r = absurd (miss (0 ∷ 1 ∷ 2 ∷ 4 ∷ 5 ∷ 6 ∷ 7 ∷ 8 ∷ 9 ∷ []) 3 tt t)
-no-line (Balance s) t r = refl
-no-line Payment t r = refl
-no-line Receipt t r = refl
-no-line Addressee t r = refl
-no-line Tail t r = refl
-no-line Unknown t r = refl
 
 -- amounts have at most fifteen digits
 none-small : Small noSums
 none-small = record { debit-small = lit< tt; credit-small = lit< tt }
 
-pub amounts-small : (k : Kind) (r : List ℕ) → length r ≡ 120 → Small (lineSums k r)
+pub sums-small : (k : Kind) (r : List ℕ) → length r ≡ 120 → Small (lineSums k r)
 unfolding valuesIn
-amounts-small Head r l = none-small
-amounts-small Taxpayer r l = none-small
-amounts-small Domicile r l = none-small
-amounts-small (Line s) r l = pair-small (Line s) r l
-amounts-small (Balance s) r l = none-small
-amounts-small Payment r l = none-small
-amounts-small Receipt r l = none-small
-amounts-small Addressee r l = none-small
-amounts-small Tail r l = none-small
-amounts-small Unknown r l = none-small
+sums-small Head r l = none-small
+sums-small Taxpayer r l = none-small
+sums-small Domicile r l = none-small
+sums-small (Line s) r l = pair-small (Line s) r l
+sums-small (Balance s) r l = none-small
+sums-small Payment r l = none-small
+sums-small Receipt r l = none-small
+sums-small Addressee r l = none-small
+sums-small Tail r l = none-small
+sums-small Unknown r l = none-small
 
 -- the search for delega d, whose answer is a, has come to the state st: what a is, the rest gives from st
 pub record Searching (flow : List ℕ) (d : ℕ) (a : DelegaAnswer) (st : State) : Type 0 where
@@ -82,10 +53,6 @@ pub search-end : (flow : List ℕ) (d : ℕ) (a : DelegaAnswer) (st : State) →
 unfolding delegaFrom chunks
 search-end flow d a st g h =
     g .rest ∙ ap (λ (n : ℕ). delegaFrom d st (chunks n (drop (st .seen * 120) flow))) (let e : length flow / 120 - st .seen ≡ 0 = omega arith in e)
-
-chunks-on : (m n k : ℕ) (s : List ℕ) → m ≡ suc n → chunks m (drop (k * 120) s) ≡ take 120 (drop (k * 120) s) ∷ chunks n (drop ((k + 1) * 120) s)
-unfolding chunks
-chunks-on m n k s e = rw (e, drop-drop 120 (k * 120) s) (ap (λ (j : ℕ). take 120 (drop (k * 120) s) ∷ chunks n (drop j s)) (let h : k * 120 + 120 ≡ (k + 1) * 120 = omega arith in h))
 
 module _ (flow : List ℕ) (d : ℕ) (a : DelegaAnswer) (st : State) (g : Searching flow d a st) (more : st .seen < length flow / 120) (r : List ℕ) (er : r ≡ take 120 (drop (st .seen * 120) flow)) (k : Kind) (ek : k ≡ kindIn r) where
   opened : a ≡ cond (closesAt d (st .deleghe) (kindIn r)) (answered st) (delegaFrom d (next st r) (restOf flow (st .seen + 1)))
@@ -106,5 +73,5 @@ module _ (flow : List ℕ) (d : ℕ) (a : DelegaAnswer) (st : State) (g : Search
       record {
         ahead = omega arith;
         rest = rw (← ek, f) at opened;
-        below = state-on st k (lineSums k r) (g .below) (amounts-small k r l);
+        below = state-on st k (lineSums k r) (g .below) (sums-small k r l);
       }

@@ -25,11 +25,12 @@ use Rattle.layout.proofs.Table.{at-each}
 use Rattle.rules.specs.declared.Sums.{Sums}
 use Rattle.rules.specs.declared.State.{State}
 use Rattle.rules.specs.declared.Outcome.{Outcome}
-use Rattle.rules.specs.declared.Outcome.the-variants.{Pass, Fault}
+use Rattle.rules.specs.declared.Outcome.the-variants.{Pass}
 use Rattle.rules.specs.Order.{first}
 use Rattle.rules.specs.Amounts.{signOf, apart}
 use Rattle.rules.specs.Stored.{Stored, Value, Mark, sectionSums, storedOf}
 use Rattle.rules.specs.Checks.{orBad, badFields}
+use Rattle.rules.proofs.FirstFault.{first-none}
 use Rattle.rebalance.specs.Rebalance.{keptFields, clear}
 use Rattle.rebalance.proofs.Written.{both-true, laid, Printable, valueFields, digits-pass}
 
@@ -180,11 +181,6 @@ bad-one f fs r = go (numberOf (bytesOf r f))
     go (NonDigit i) = refl
     go TooLong = refl
 
--- Nothing follows a pass.
-first-none : (o : Outcome) → o ≡ first o Pass
-first-none Pass = refl
-first-none (Fault n p) = refl
-
 -- Fields of digits may be read in any order.
 bad-swap : (f g h : Field) (r : List ℕ) → badFields (f ∷ g ∷ h ∷ []) r ≡ Pass → badFields (f ∷ h ∷ g ∷ []) r ≡ Pass
 unfolding badFields
@@ -211,7 +207,7 @@ row-fields false t x = refl
 -- The numeric fields of a record are the kept ones and the stored ones.
 pub fields-same : {st : State} {k : Kind} → Storing st k → (r : List ℕ) → Same (badFields (fieldsOf k) r) (first (badFields (keptFields k) r) (badFields (valueFields (storedOf st k)) r))
 unfolding valueFields badFields
-fields-same (plain e f) r = rw (e, f) (same _ _ (first-none _))
+fields-same (plain e f) r = rw (e, f) (same _ _ (sym (first-none _)))
 fields-same {st} (balance s h) r =
     same _ _ (ap (λ (fs : List Field). badFields (delegaNumber ∷ fs) r) (row-fields (sectionAt s .totals) (sectionSums st s) (sectionAt s)) ∙ bad-one delegaNumber (valueFields (storedOf st (Balance s))) r)
 fields-same payment r = same _ _ (bad-one delegaNumber (finalBalance ∷ []) r)

@@ -14,10 +14,11 @@ use Rattle.layout.specs.Fields.{delegaNumber, fieldsOf, valueOf}
 use Rattle.rules.specs.declared.State.{State}
 use Rattle.rules.specs.declared.Outcome.{Outcome}
 use Rattle.rules.specs.declared.Outcome.the-variants.{Pass, Fault}
-use Rattle.rules.specs.Order.{first, stands, full, typeStands, standing}
+use Rattle.rules.specs.Order.{stands, full, typeStands, standing}
 use Rattle.rules.specs.Stored.{Stored, storedOf, wrong}
 use Rattle.rules.specs.Checks.{charFault, orBad, badFields, numberFault, tailName, ownFault, fault}
 use Rattle.rules.specs.Step.{lineSums, next}
+use Rattle.rules.proofs.FirstFault.{first-pass, five-pass}
 use Rattle.rebalance.specs.Rebalance.{putAll, emit, fitsAll, clear, keptFields, keptFault}
 use Rattle.rebalance.proofs.Written.{byte-of, laid, length-putAll, putAll-clear, Holds, putAll-holds, holds-same, putAll-allowed, valueFields, holds-numbers, holds-pass, pass-fits, pass-holds}
 use Rattle.rebalance.proofs.Columns.{Storing, plain, balance, payment, tail, storing, Columns, columns, printable-stored, fields-same}
@@ -41,29 +42,29 @@ kept payment c name r part = record { fields = ap numberDigits (part 3 7 (c .del
 kept tail c name r part = record { fields = refl; own = ap (tailName name) (part 19 20 refl); sums = refl }
 
 -- A record that has no character fault is made of characters.
-allowed-of : (c : Characters) → charFault c ≡ Pass → c ≡ Allowed
+pub allowed-of : (c : Characters) → charFault c ≡ Pass → c ≡ Allowed
 allowed-of Allowed e = refl
 allowed-of (BadAt i) e = cc
 
--- Checks that pass together pass each.
-first-pass : (a b : Outcome) → first a b ≡ Pass → (a ≡ Pass) × (b ≡ Pass)
-first-pass Pass b e = (refl, e)
-first-pass (Fault n p) b e = (e, cc)
-
--- So do five.
-five-pass : (a b c d e : Outcome) → first a (first b (first c (first d e))) ≡ Pass → (a ≡ Pass) × (b ≡ Pass) × (c ≡ Pass) × (d ≡ Pass) × (e ≡ Pass)
-five-pass a b c d e h =
-    let w = first-pass a (first b (first c (first d e))) h in
-    let x = first-pass b (first c (first d e)) (w .1) in
-    let y = first-pass c (first d e) (x .1) in
-    let z = first-pass d e (y .1) in
-    (w .0, x .0, y .0, z .0, z .1)
-
 -- The checks that rebalancing leaves alone, one by one.
-kept-parts : (name : List ℕ) (st : State) (r : List ℕ) → keptFault name st r ≡ Pass →
-    (charFault (firstBad r) ≡ Pass) × (standing (st .stage) (typeIn r) (kindIn r) ≡ Pass) × (badFields (keptFields (kindIn r)) r ≡ Pass) × (numberFault (st .deleghe) (kindIn r) (valueOf r delegaNumber) ≡ Pass) × (ownFault name st (kindIn r) r ≡ Pass)
+pub record KeptEach (name : List ℕ) (st : State) (r : List ℕ) : Type 0 where
+  pub characters : charFault (firstBad r) ≡ Pass
+  pub order : standing (st .stage) (typeIn r) (kindIn r) ≡ Pass
+  pub digits : badFields (keptFields (kindIn r)) r ≡ Pass
+  pub number : numberFault (st .deleghe) (kindIn r) (valueOf r delegaNumber) ≡ Pass
+  pub own : ownFault name st (kindIn r) r ≡ Pass
+
+-- Where they pass together, each passes.
+pub kept-each : (name : List ℕ) (st : State) (r : List ℕ) → keptFault name st r ≡ Pass → KeptEach name st r
 unfolding keptFault
-kept-parts name st r e = five-pass _ (standing (st .stage) (typeIn r) (kindIn r)) _ _ _ e
+kept-each name st r e =
+    let p = five-pass (charFault (firstBad r)) (standing (st .stage) (typeIn r) (kindIn r)) (badFields (keptFields (kindIn r)) r) (numberFault (st .deleghe) (kindIn r) (valueOf r delegaNumber)) _ e in
+    record { characters = p .0; order = p .1; digits = p .2; number = p .3; own = p .4 }
+
+-- Where each passes, they pass together.
+pub kept-all : (name : List ℕ) (st : State) (r : List ℕ) → KeptEach name st r → keptFault name st r ≡ Pass
+unfolding keptFault
+kept-all name st r k = rw (k .characters, k .order, k .digits, k .number, k .own)
 
 -- A record of the same kind gets the same stored fields.
 emit-as : (st : State) (r s : List ℕ) → kindIn s ≡ kindIn r → emit st s ≡ putAll (storedOf st (kindIn r)) s
@@ -83,7 +84,7 @@ emit-plain st r e = rw e
 -- A record that passes the checks that rebalancing leaves alone may stand where it does.
 pub kept-stands : (name : List ℕ) (st : State) (r : List ℕ) → keptFault name st r ≡ Pass → stands (st .stage) (kindIn r) ≡ true
 unfolding keptFault standing
-kept-stands name st r e = go (stands (st .stage) (kindIn r)) (typeStands (st .stage) (typeIn r)) (kept-parts name st r e .1)
+kept-stands name st r e = go (stands (st .stage) (kindIn r)) (typeStands (st .stage) (typeIn r)) (kept-each name st r e .order)
   where
     go : (t u : Bool) → cond t (cond (full (st .stage) (kindIn r)) (Fault 6 11) Pass) (cond u (Fault 4 11) (Fault 4 2)) ≡ Pass → t ≡ true
     go true u e = refl
@@ -161,9 +162,9 @@ module _ (st : State) (r : List ℕ) (l : length r ≡ 120) where
   pub emit-passes : (name : List ℕ) → keptFault name st r ≡ Pass → fitsAll (storedOf st (kindIn r)) ≡ true → fault name st (emit st r) ≡ Pass
   unfolding fault
   emit-passes name e f =
-      let a = kept-parts name st r e in
+      let a = kept-each name st r e in
       let k = emit-kept name in
-      rw (emit-type, emit-kind, emit-number, emit-allowed (allowed-of (firstBad r) (a .0)), a .1, emit-numbers f (k .fields ∙ a .2), a .3, k .own ∙ a .4) (holds-pass xs (emit st r) f emit-holds)
+      rw (emit-type, emit-kind, emit-number, emit-allowed (allowed-of (firstBad r) (a .characters)), a .order, emit-numbers f (k .fields ∙ a .digits), a .number, k .own ∙ a .own) (holds-pass xs (emit st r) f emit-holds)
 
   -- A record that passes every check passes those that rebalancing leaves alone, and its stored fields are of digits and right.
   fault-parts : (name : List ℕ) → fault name st r ≡ Pass → (keptFault name st r ≡ Pass) × (badFields (valueFields (storedOf st (kindIn r))) r ≡ Pass) × (wrong (storedOf st (kindIn r)) r ≡ Pass)

@@ -10,7 +10,7 @@ use lib.Dec.{ltb, leb}
 use Rattle.layout.specs.declared.Field.{Field}
 use Rattle.layout.specs.declared.Kind.the-variants.{Tail}
 use Rattle.layout.specs.Sections.{sectionAt}
-use Rattle.layout.specs.Fields.{Within, amountAt, finalBalance, tailDeleghe, tailSum, tailRecords}
+use Rattle.layout.specs.Fields.{amountAt, finalBalance, tailDeleghe, tailSum, tailRecords}
 use Rattle.rules.specs.declared.Sums.{Sums}
 use Rattle.rules.specs.declared.State.{State}
 use Rattle.rules.specs.Amounts.{apart}

@@ -37,12 +37,6 @@ unfolding chunks
 sized-chunks zero s h = tt
 sized-chunks (suc n) s h = (length-take-le 120 s (omega arith), sized-chunks n (drop 120 s) (rw length-drop (omega arith)))
 
--- A flow is cut into as many records as are asked for.
-pub length-chunks : (n : ℕ) (s : List ℕ) → length (chunks n s) ≡ n
-unfolding chunks
-length-chunks zero s = refl
-length-chunks (suc n) s = ap suc (length-chunks n (drop 120 s))
-
 -- The head's name does not depend on what follows the head.
 pub name-in-front : (r ys : List ℕ) → length r ≡ 120 → headNameOf (r ++ ys) ≡ headNameOf r
 name-in-front r ys l = rw (drop-append-le 19 r ys (omega arith)) (take-append-le 20 (drop 19 r) ys (rw length-drop (omega arith)))

@@ -1,10 +1,9 @@
--- The law of rebalancing a flow: where it mends the flow's records, the flow is accepted after it with the sums of its lines.
-use Prim.Native.Nat.{ℕ, _*_, _/_, _%_, _<_, _≤_}
+-- The laws of rebalancing a flow: where it mends the flow's records, the flow is accepted after it with the sums of its lines; an accepted flow is mended, and keeps every byte.
+use Prim.Native.Nat.{ℕ, _*_, _/_, _%_}
 use mathlib.Core.Path.{_≡_, refl, sym, ap, _∙_}
-use mathlib.Core.Bool.{true, false, false≢true}
+use mathlib.Core.Bool.{true, false≢true}
 use mathlib.Core.List.{List, [], _∷_}
 use native.Mathlib.Omega.{arith}
-use borrow.Author.Tests.{le-ltb, eq-eqb, ne-eqb}
 use lib.ListN.{length}
 use Rattle.layout.specs.declared.Kind.{Kind}
 use Rattle.layout.specs.declared.Kind.the-variants.{Head, Taxpayer, Domicile, Line, Balance, Payment, Receipt, Addressee, Tail, Unknown}
@@ -16,11 +15,12 @@ use Rattle.rules.specs.Order.{among, stands}
 use Rattle.rules.specs.Stored.{storedOf}
 use Rattle.rules.specs.Step.{next}
 use Rattle.judge.specs.declared.Verdict.the-variants.{Accepted}
-use Rattle.judge.specs.Flow.{acceptedWith, judgedFrom, recordsOf, headNameOf, judged}
-use Rattle.judge.specs.Plain.{stateAfter}
+use Rattle.judge.specs.Flow.{acceptedWith, recordsOf, headNameOf, judged}
+use Rattle.judge.specs.Plain.{Whole, stateAfter}
+use Rattle.judge.proofs.Accepted.{judged-whole, accepted-means-no-fault, sound-phase}
 use Rattle.rebalance.specs.Rebalance.{rebalanced, flat, Sized, Mendable}
 use Rattle.rebalance.proofs.Emit.{emit-plain, kept-stands}
-use Rattle.rebalance.proofs.Rebalanced.{rebalanced-accepted, accepted-own, length-rebalanced, sized-rebalanced}
+use Rattle.rebalance.proofs.Rebalanced.{rebalanced-accepted, faultless-own, faultless-mendable, length-rebalanced, sized-rebalanced}
 use Rattle.rebalance.proofs.Flat.{length-flat, records-flat, flat-chunks, sized-chunks, name-in-front}
 
 -- At the start only the head may stand.
@@ -50,11 +50,6 @@ unfolding rebalanced flat
 name-mended name st [] z m = refl
 name-mended name st (r ∷ rs) z m = name-kept st r rs (m .0) (head-stands (st .stage) (kindIn r) z (kept-stands name st r (m .1)))
 
--- A flow of some whole records, of no more than 65,520 bytes, is judged by its records.
-pub judged-whole : (s : List ℕ) → length s ≤ 65520 → 0 < length s → length s % 120 ≡ 0 → judged s ≡ judgedFrom (headNameOf s) startState (recordsOf s)
-unfolding judged
-judged-whole s short some whole = rw (le-ltb 65520 (length s) short, ne-eqb (length s) 0 (λ e. omega arith), eq-eqb (length s % 120) 0 whole)
-
 -- A flow of whole records.
 module _ (s : List ℕ) (whole : length s % 120 ≡ 0) where
   -- Its records have 120 bytes each.
@@ -71,18 +66,24 @@ module _ (s : List ℕ) (whole : length s % 120 ≡ 0) where
       length-flat (rebalanced st (recordsOf s)) (sized-rebalanced st (recordsOf s) sized-records)
       ∙ (ap (λ (n : ℕ). n * 120) (length-rebalanced st (recordsOf s)) ∙ (sym (length-flat (recordsOf s) sized-records) ∙ ap length flat-records))
 
--- A flow of some whole records, of no more than 65,520 bytes.
-module _ (s : List ℕ) (short : length s ≤ 65520) (some : 0 < length s) (whole : length s % 120 ≡ 0) where
+-- A flow of 1 to 546 whole records.
+module _ (s : List ℕ) (w : Whole s) where
   -- Where rebalancing mends its records, it is accepted after it, with the sums of its lines.
   pub judged-rebalanced : Mendable (headNameOf s) startState (recordsOf s) → judged (flat (rebalanced startState (recordsOf s))) ≡ acceptedWith (stateAfter startState (recordsOf s))
   unfolding startState
   judged-rebalanced m =
       let rs = recordsOf s in
-      let e : length (flat (rebalanced startState rs)) ≡ length s = length-mended s whole startState in
-      judged-whole (flat (rebalanced startState rs)) (omega arith) (omega arith) (rw e whole)
-      ∙ (rw (name-mended (headNameOf s) startState rs refl m, flat-records s whole, records-flat (rebalanced startState rs) (sized-rebalanced startState rs (sized-records s whole))) (rebalanced-accepted (headNameOf s) startState rs m))
+      let e : length (flat (rebalanced startState rs)) ≡ length s = length-mended s (w .even) startState in
+      judged-whole (flat (rebalanced startState rs)) (record { short = rw e (w .short); some = rw e (w .some); even = rw e (w .even) })
+      ∙ (rw (name-mended (headNameOf s) startState rs refl m, flat-records s (w .even), records-flat (rebalanced startState rs) (sized-rebalanced startState rs (sized-records s (w .even)))) (rebalanced-accepted (headNameOf s) startState rs m))
 
-  -- Where it is accepted, rebalancing leaves every byte.
-  pub accepted-untouched : judged s .verdict ≡ Accepted → flat (rebalanced startState (recordsOf s)) ≡ s
-  accepted-untouched a =
-      ap flat (accepted-own (headNameOf s) startState (recordsOf s) (sized-records s whole) (rw (judged-whole s short some whole) at a)) ∙ flat-records s whole
+-- Rebalancing leaves every byte of an accepted flow.
+pub accepted-untouched : (s : List ℕ) → judged s .verdict ≡ Accepted → flat (rebalanced startState (recordsOf s)) ≡ s
+accepted-untouched s a =
+    let h = accepted-means-no-fault s a in
+    ap flat (faultless-own (headNameOf s) startState (recordsOf s) (sized-records s (h .whole .even)) (h .passes)) ∙ flat-records s (h .whole .even)
+
+-- Rebalancing mends the records of an accepted flow.
+pub accepted-mends : (s : List ℕ) → judged s .verdict ≡ Accepted → Mendable (headNameOf s) startState (recordsOf s)
+accepted-mends s a =
+    let h = accepted-means-no-fault s a in faultless-mendable (headNameOf s) startState (recordsOf s) (sized-records s (h .whole .even)) (h .passes) (sound-phase s h)

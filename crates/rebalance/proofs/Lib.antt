@@ -2,6 +2,7 @@ pub mod Written
 pub mod Columns
 pub mod Emit
 pub mod Rebalanced
+pub mod Weighed
 pub mod Flat
 pub mod Judged
 pub mod Turns

@@ -1,21 +1,15 @@
--- The laws of rebalancing records: those that it mends are accepted after it with the sums of their lines, and accepted ones are their own rebalancing.
-use Prim.Native.Nat.{ℕ, suc, _+_}
+-- The laws of rebalancing records: those that it mends are accepted after it with the sums of their lines, and those without a fault are their own rebalancing.
+use Prim.Native.Nat.{ℕ, suc}
 use mathlib.Core.Path.{_≡_, refl, ap, ap₂, _∙_}
-use mathlib.Core.Bool.{Bool, true, false, cond}
+use mathlib.Core.Bool.{true}
 use mathlib.Core.List.{List, [], _∷_, _++_}
-use borrow.Author.Tests.{eqb-true, eq-eqb}
-use lib.Dec.{eqb}
+use borrow.Author.Tests.{eq-eqb}
 use lib.ListN.{length}
 use Rattle.rules.specs.declared.State.{State}
-use Rattle.rules.specs.declared.Outcome.{Outcome}
-use Rattle.rules.specs.declared.Outcome.the-variants.{Pass, Fault}
 use Rattle.rules.specs.State.{afterTail}
-use Rattle.rules.specs.Checks.{fault}
 use Rattle.rules.specs.Step.{next}
-use Rattle.judge.specs.declared.Verdict.the-variants.{Accepted}
-use Rattle.judge.specs.declared.Judgement.{Judgement}
-use Rattle.judge.specs.Flow.{refusedWith, acceptedWith, closing, after, judgedFrom}
-use Rattle.judge.specs.Plain.{stateAfter}
+use Rattle.judge.specs.Flow.{acceptedWith, closing, judgedFrom}
+use Rattle.judge.specs.Plain.{stateAfter, NoFault}
 use Rattle.rebalance.specs.Rebalance.{emit, rebalanced, allFit, Sized, Mendable}
 use Rattle.rebalance.proofs.Emit.{emit-length, next-emit, emit-again, emit-passes, fault-kept, fault-fits, emit-own}
 
@@ -25,35 +19,18 @@ unfolding judgedFrom rebalanced stateAfter closing
 rebalanced-accepted name st [] m = rw (eq-eqb _ _ m)
 rebalanced-accepted name st (r ∷ rs) m = rw (emit-passes st r (m .0) name (m .1) (m .2), next-emit st r (m .0)) (rebalanced-accepted name (next st r) rs (m .3))
 
--- Where a record and those after it are accepted, each is.
-after-accepts : (o : Outcome) (n : ℕ) (j : Judgement) → after o n j .verdict ≡ Accepted → (o ≡ Pass) × (j .verdict ≡ Accepted)
-after-accepts Pass n j e = (refl, e)
-after-accepts (Fault x p) n j e = (cc, cc)
+-- Records without a fault are their own rebalancing.
+pub faultless-own : (name : List ℕ) (st : State) (rs : List (List ℕ)) → Sized rs → NoFault name st rs → rebalanced st rs ≡ rs
+unfolding rebalanced
+faultless-own name st [] s n = refl
+faultless-own name st (r ∷ rs) s n = ap₂ _∷_ (emit-own st r (s .0) name (n .0)) (faultless-own name (next st r) rs (s .1) (n .1))
 
--- Accepted records are their own rebalancing.
-pub accepted-own : (name : List ℕ) (st : State) (rs : List (List ℕ)) → Sized rs → judgedFrom name st rs .verdict ≡ Accepted → rebalanced st rs ≡ rs
-unfolding judgedFrom rebalanced
-accepted-own name st [] s e = refl
-accepted-own name st (r ∷ rs) s e =
-    let a = after-accepts (fault name st r) (st .seen) (judgedFrom name (next st r) rs) e in
-    ap₂ _∷_ (emit-own st r (s .0) name (a .0)) (accepted-own name (next st r) rs (s .1) (a .1))
-
--- Records after which a flow is accepted end with the tail.
-closing-tail : (st : State) → closing st .verdict ≡ Accepted → st .stage .phase ≡ afterTail
-unfolding closing
-closing-tail st e = go (eqb (st .stage .phase) afterTail) refl e
-  where
-    go : (t : Bool) → eqb (st .stage .phase) afterTail ≡ t → cond t (acceptedWith st) (refusedWith 5 (st .seen + 1) 0) .verdict ≡ Accepted → st .stage .phase ≡ afterTail
-    go true p f = eqb-true _ _ p
-    go false p f = cc
-
--- Accepted records are among those that rebalancing mends.
-pub accepted-mendable : (name : List ℕ) (st : State) (rs : List (List ℕ)) → Sized rs → judgedFrom name st rs .verdict ≡ Accepted → Mendable name st rs
-unfolding judgedFrom
-accepted-mendable name st [] s e = closing-tail st e
-accepted-mendable name st (r ∷ rs) s e =
-    let a = after-accepts (fault name st r) (st .seen) (judgedFrom name (next st r) rs) e in
-    (s .0, fault-kept st r (s .0) name (a .0), fault-fits st r (s .0) name (a .0), accepted-mendable name (next st r) rs (s .1) (a .1))
+-- Records without a fault that end with the tail are among those that rebalancing mends.
+pub faultless-mendable : (name : List ℕ) (st : State) (rs : List (List ℕ)) → Sized rs → NoFault name st rs → stateAfter st rs .stage .phase ≡ afterTail → Mendable name st rs
+unfolding stateAfter
+faultless-mendable name st [] s n e = e
+faultless-mendable name st (r ∷ rs) s n e =
+    (s .0, fault-kept st r (s .0) name (n .0), fault-fits st r (s .0) name (n .0), faultless-mendable name (next st r) rs (s .1) (n .1) e)
 
 -- Rebalancing leaves the number of records.
 pub length-rebalanced : (st : State) (rs : List (List ℕ)) → length (rebalanced st rs) ≡ length rs

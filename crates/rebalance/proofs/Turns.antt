@@ -1,11 +1,11 @@
 -- One record of a flow after the other: what a record leaves of the bounds on the state, and what it leaves of the flow.
-use Prim.Native.Nat.{ℕ, suc, _+_, _-_, _*_, _/_, _<_, _≤_}
+use Prim.Native.Nat.{ℕ, _+_, _-_, _*_, _/_, _<_, _≤_}
 use mathlib.Core.Path.{_≡_}
 use mathlib.Core.List.{List, [], _∷_}
 use native.Mathlib.Omega.{arith}
 use native.Mathlib.Nat.{sub-zero}
 use lib.ListN.{length, take, drop, length-drop}
-use lib.Seq.{drop-drop, length-take-le}
+use lib.Seq.{length-take-le}
 use Rattle.layout.specs.declared.Kind.{Kind}
 use Rattle.layout.specs.declared.Kind.the-variants.{Head, Taxpayer, Domicile, Line, Balance, Payment, Receipt, Addressee, Tail, Unknown}
 use Rattle.layout.specs.Kinds.{kindIn}
@@ -16,6 +16,7 @@ use Rattle.rules.specs.Values.{valuesIn}
 use Rattle.rules.specs.Step.{lineSums, nextOf, next}
 use Rattle.rules.proofs.Growth.{money-room, state-on}
 use Rattle.judge.specs.Flow.{chunks, recordsOf, restOf}
+use Rattle.judge.proofs.Records.{chunks-on}
 use Rattle.judge.proofs.Turn.{pair-small}
 use Rattle.rebalance.specs.Weigh.{Turn}
 
@@ -57,11 +58,7 @@ record-sized s n h = length-take-le 120 (drop (n * 120) s) (rw length-drop (omeg
 
 -- The records that are left are the next one and those behind it.
 pub rest-on : (s : List ℕ) (n : ℕ) → n < length s / 120 → restOf s n ≡ take 120 (drop (n * 120) s) ∷ restOf s (n + 1)
-unfolding chunks
-rest-on s n h =
-    let e : length s / 120 - n ≡ suc (length s / 120 - (n + 1)) = omega arith in
-    let f : n * 120 + 120 ≡ (n + 1) * 120 = omega arith in
-    rw (e, drop-drop 120 (n * 120) s, f)
+rest-on s n h = chunks-on (length s / 120 - n) (length s / 120 - (n + 1)) n s (omega arith)
 
 -- No record is left behind the last.
 pub rest-end : (s : List ℕ) (n : ℕ) → length s / 120 ≤ n → restOf s n ≡ []

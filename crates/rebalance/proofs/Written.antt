@@ -39,12 +39,12 @@ laid [] = true
 laid (x ∷ xs) = cond (leb (startOf x + widthOf x) 120) (cond (clear (startOf x) (widthOf x) xs) (laid xs) false) false
 
 -- A stored field has as many bytes as its text.
-length-text : (x : Stored) → length (textOf x) ≡ widthOf x
+pub length-text : (x : Stored) → length (textOf x) ≡ widthOf x
 length-text (Value n f v) = length-digits (f .end - f .start) v
 length-text (Mark n c b) = refl
 
 -- A record in which a stored field is written.
-abbrev put : Stored → List ℕ → List ℕ
+abbrev pub put : Stored → List ℕ → List ℕ
 put x r = putAt (startOf x) (textOf x) r
 
 -- The first of stored fields lies within the record and outside the others, these are laid out, and writing it leaves the record its length.

@@ -1,10 +1,10 @@
+-- `correct::bytes_at` meets its contract: fifteen bytes copied into room for fifteen are those bytes.
 use lib.Seq.{length-take-le}
 use lib.ListN.{length, take, drop, length-drop}
 use native.Mathlib.Nat.{add-sub-cancel-left}
-use Prim.Native.Nat.{_+_, _-_, _≤_}
-use Rattle.correct.proofs.Undone.{put-is, copied, old-length, length-amounts, amounts-written, undone, whole-amounts, weighed-negative, weighed-made, weighed-unfit, tried-debit, tried-credit, tried-wrong, tried-weighed, replaced-is, line-room}
+use Prim.Native.Nat.{_+_, _≤_}
+use Rattle.correct.proofs.Undone.{copied}
 use native.Mathlib.Omega.{arith}
-use mathlib.Core.Path.{_≡_, refl, sym, ap, _∙_}
 use borrow.Author.Needs.{needs}
 use Rattle.correct.proofs.bytes_at.Statement.{statement}
 use Rattle.correct.proofs.bytes_at.Tie as tie

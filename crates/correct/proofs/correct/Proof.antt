@@ -1,5 +1,6 @@
+-- `correct::correct` meets its contract: a flow's refusal and 21 are handed on, and of the line that was found the other tests give the answer.
 use Rattle.correct.proofs.Named.{found-line, corrected-at, corrected-not}
-use mathlib.Core.Path.{_≡_, refl, sym, ap, _∙_}
+use mathlib.Core.Path.{sym, _∙_}
 use borrow.Author.Needs.{needs}
 use Rattle.correct.proofs.correct.Statement.{statement}
 use Rattle.correct.proofs.correct.Tie as tie

@@ -1,4 +1,5 @@
-use Rattle.correct.proofs.Undone.{put-is, copied, old-length, length-amounts, amounts-written, undone, whole-amounts, weighed-negative, weighed-made, weighed-unfit, tried-debit, tried-credit, tried-wrong, tried-weighed, replaced-is, line-room}
+-- `correct::put_amounts` meets its contract: the credit is put first and the debit over what that leaves.
+use Rattle.correct.proofs.Undone.{amounts-written}
 use borrow.Author.Needs.{needs}
 use Rattle.correct.proofs.put_amounts.Statement.{statement}
 use Rattle.correct.proofs.put_amounts.Tie as tie

@@ -1,11 +1,11 @@
+-- `correct::put_back` meets its contract: the old debit is put first and the old credit over what that leaves.
 use Rattle.text.proofs.Puts.{length-put}
 use Rattle.text.specs.Placing.{putAt}
 use lib.ListN.{length}
-use mathlib.Core.List.{List}
 use Prim.Native.Nat.{_+_, _≤_}
-use Rattle.correct.proofs.Undone.{put-is, copied, old-length, length-amounts, amounts-written, undone, whole-amounts, weighed-negative, weighed-made, weighed-unfit, tried-debit, tried-credit, tried-wrong, tried-weighed, replaced-is, line-room}
+use Rattle.correct.proofs.Undone.{put-is}
 use native.Mathlib.Omega.{arith}
-use mathlib.Core.Path.{_≡_, refl, sym, ap, _∙_}
+use mathlib.Core.Path.{_≡_, ap, _∙_}
 use borrow.Author.Needs.{needs}
 use Rattle.correct.proofs.put_back.Statement.{statement}
 use Rattle.correct.proofs.put_back.Tie as tie

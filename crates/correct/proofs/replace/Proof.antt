@@ -1,6 +1,7 @@
+-- `correct::replace` meets its contract: where a delega turns negative or a value does not fit, putting the old bytes back undoes the writing.
 use Rattle.correct.specs.Correction.{refreshed}
-use Rattle.correct.proofs.Undone.{put-is, copied, old-length, length-amounts, amounts-written, undone, whole-amounts, weighed-negative, weighed-made, weighed-unfit, tried-debit, tried-credit, tried-wrong, tried-weighed, replaced-is, line-room}
-use mathlib.Core.Path.{_≡_, refl, sym, ap, _∙_}
+use Rattle.correct.proofs.Undone.{undone, whole-amounts, weighed-negative, weighed-made, weighed-unfit}
+use mathlib.Core.Path.{sym, ap, _∙_}
 use borrow.Author.Needs.{needs}
 use Rattle.correct.proofs.replace.Statement.{statement}
 use Rattle.correct.proofs.replace.Tie as tie

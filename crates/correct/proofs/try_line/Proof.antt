@@ -1,9 +1,10 @@
+-- `correct::try_line` meets its contract: each return is one way through the tests of the definition.
 use Rattle.layout.proofs.Table.{near-rule}
 use Rattle.correct.specs.Correction.{replaced}
 use Rattle.correct.specs.Writing.{amountsPut}
-use Rattle.correct.proofs.Undone.{put-is, copied, old-length, length-amounts, amounts-written, undone, whole-amounts, weighed-negative, weighed-made, weighed-unfit, tried-debit, tried-credit, tried-wrong, tried-weighed, replaced-is, line-room}
+use Rattle.correct.proofs.Undone.{tried-debit, tried-credit, tried-wrong, tried-weighed, line-room}
 use native.Mathlib.Omega.{arith}
-use mathlib.Core.Path.{_≡_, refl, sym, ap, _∙_}
+use mathlib.Core.Path.{refl, sym, _∙_}
 use borrow.Author.Needs.{needs}
 use Rattle.correct.proofs.try_line.Statement.{statement}
 use Rattle.correct.proofs.try_line.Tie as tie

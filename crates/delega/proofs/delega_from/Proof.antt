@@ -1,5 +1,5 @@
 -- `delega::delega_from` meets its contract. The invariant: what the whole search answers, the rest of the records gives from the state; the measure is the records that are left.
-use Rattle.delega.proofs.Search.{Searching, search-start, search-end, search-found, search-on, amounts-small}
+use Rattle.delega.proofs.Search.{Searching, search-start, search-end, search-found, search-on, sums-small}
 use Rattle.delega.specs.OneDelega.{delegaFrom}
 use Rattle.judge.specs.Flow.{recordsOf}
 use Rattle.rules.proofs.Growth.{money-room}
@@ -75,7 +75,7 @@ next-state-requires c κs =
     let q = c .before .before .before .before in
     let b = q .before .before .before .before .loop .inv .below in
     let s = small q in
-    ((money-room _ _ _ (omega arith) (b .money-below), rw (c .line-sums .ensures) (amounts-small (c .before .before .before .kind-in .result) (r q) (whole q))), (omega (arith, b .lines-below), omega (arith, b .deleghe-below), omega arith))
+    ((money-room _ _ _ (omega arith) (b .money-below), rw (c .line-sums .ensures) (sums-small (c .before .before .before .kind-in .result) (r q) (whole q))), (omega (arith, b .lines-below), omega (arith, b .deleghe-below), omega arith))
 
 loop-less : tie.Need-loop-less Inv-loop μ-loop
 loop-less c = let q = c .before .before .before .before .before in rw (c .next-state .ensures) (omega (arith, q .before .before .if1 .taken))
