@@ -9,12 +9,11 @@ use lib.ListN.{length}
 use Rattle.judge.specs.declared.Verdict.the-variants.{Accepted}
 use Rattle.judge.specs.Flow.{recordsOf, judged}
 use Rattle.judge.proofs.Accepted.{accepted-means-no-fault}
-use Rattle.judge.proofs.Counts.{length-chunks}
+use Rattle.judge.proofs.Records.{length-chunks, record-there, record-number}
 use Rattle.walk.specs.declared.WalkPlace.{WalkPlace}
 use Rattle.walk.specs.declared.Answer.{Answer}
 use Rattle.walk.specs.declared.Answer.the-variants.{Shown, NoMore}
 use Rattle.walk.specs.Walk.{placeStart, placeNext, answerAt, placeAfter, stepAt, partIn, startIn, placeFrom, stepFromStart, Shows, Ends}
-use Rattle.walk.proofs.Records.{record-there, record-number}
 
 -- the place after n records
 abbrev at : ℕ → WalkPlace

@@ -3,7 +3,8 @@ use Prim.Native.Nat.{ℕ, zero, suc}
 use mathlib.Core.Path.{_≡_, refl, sym, ap, _∙_}
 use mathlib.Core.List.{List}
 use Rattle.judge.specs.declared.Verdict.the-variants as Judged
-use Rattle.judge.specs.Flow.{refusalOf, judged}
+use Rattle.judge.specs.Refusal.{refusalOf}
+use Rattle.judge.specs.Flow.{judged}
 use Rattle.walk.specs.declared.WalkPlace.{WalkPlace}
 use Rattle.walk.specs.declared.Answer.{Answer}
 use Rattle.walk.specs.declared.Answer.the-variants.{Refused}
