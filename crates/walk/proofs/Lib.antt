@@ -1,3 +1,3 @@
 pub mod EachRecord
 pub mod Refusals
-pub mod OneStep
+pub mod OneAnswer
