@@ -1,6 +1,6 @@
 -- Each promise of this crate settles what is handed back: numbers and places, and of a part its bytes and where it lies. Of two parts that are the same so,
 -- nothing that a program can see is different.
-use Prim.Native.Nat.{ℕ}
+use Prim.Native.Nat.{ℕ, zero, suc, _+_}
 use mathlib.Core.Path.{_≡_, refl, sym, _∙_}
 use mathlib.Core.List.{List}
 use denote.Ref.{RefT, now}
@@ -9,7 +9,8 @@ use Rattle.walk.specs.declared.Answer.{Answer}
 use Rattle.walk.specs.declared.Step.{Step}
 use Rattle.walk.specs.declared.Walker.{Walker}
 use Rattle.walk.specs.declared.Stepped.{Stepped}
-use Rattle.walk.specs.Walk.{stepAt, HandedBack, walkerAt, SteppedOn}
+use Rattle.walk.specs.Walk.{answerAt, placeAfter, stepAt, partIn, startIn, HandedBack, walkerAt, SteppedOn}
+use Rattle.walk.specs.Steps.{KthStep, first, next}
 use Rattle.walk.proofs.EachRecord.{part-for, walker-for}
 
 -- two parts have the same bytes at the same place
@@ -33,3 +34,19 @@ pub one-step-on : (w : Walker) (a b : Stepped) → SteppedOn w a → SteppedOn w
 one-step-on w a b x y =
     let e : a .answer ≡ b .answer = x .answer ∙ sym (y .answer) in
     (e, one-part (w .flow) (b .answer) (a .part) (b .part) (part-for x e) (y .part), walker-for x e ∙ sym (walker-for y refl))
+
+-- a step that keeps the promise is there from each walker
+some-step-on : (w : Walker) → (s : Stepped) × SteppedOn w s
+some-step-on w =
+    let f = now (w .flow) in
+    let a = answerAt f (w .place) in
+    let r : RefT (List ℕ) = record { ptr = (w .flow .ptr .0, w .flow .ptr .1 + startIn f a); name = w .flow .name; now = partIn f a } in
+    (record { part = r; answer = a; walker = record { flow = w .flow; place = placeAfter a (w .place) } }, record { answer = refl; part = (refl, refl, refl); flow = refl; place = refl })
+
+-- and so a k-th one for each k from 1 on: what is shown of the k-th step of a walk is shown of something
+pub kth-step-there : (w : Walker) (k : ℕ) → (s : Stepped) × KthStep w (suc k) s
+kth-step-there w zero = let s = some-step-on w in (s .0, first (s .1))
+kth-step-there w (suc k) =
+    let s = kth-step-there w k in
+    let t = some-step-on (s .0 .walker) in
+    (t .0, next (s .1) (t .1))
