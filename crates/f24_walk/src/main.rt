@@ -1,39 +1,36 @@
 // Walks the flow in the file that its argument names, and prints each record with its number.
 use layout::Flow;
 use walk::Answer;
-use walk::Step;
-use walk::WalkPlace;
 
 fn misused(what: &[u8]) {
     desk::misused(b"f24_walk", what, b"FILE");
 }
 
 // Prints what a step answers, and says whether the walk goes on.
-fn show(flow: &[u8], step: Step) -> bool {
-    let answer = step.answer;
+fn show(answer: Answer, part: &[u8]) -> bool {
     match answer {
         Answer::Shown(k) => {
-            desk::print_record(k, walk::part_at(flow, step));
+            desk::print_record(k, part);
             true
         }
         Answer::NoMore => false,
-        Answer::Refused(number, record, position) => {
-            desk::print_refusal(number, record, position);
+        Answer::Refused(number, at, position) => {
+            desk::print_refusal(number, at, position);
             false
         }
     }
 }
 
-// Steps from the start until the walk shows no record.
+// Steps on from the start until a step shows no record. There are at most as many steps as a flow has records, and one more.
 fn walk_through(flow: &[u8]) {
-    let mut place = WalkPlace::start();
+    let mut walker = walk::new(flow);
     let mut left = Flow::MOST_RECORDS + 1;
-    while left > 0 {
-        let step = walk::step_at(flow, place);
-        if !show(flow, step) {
+    while 0 < left {
+        let stepped = walk::step_on(walker);
+        if !show(stepped.answer, stepped.part) {
             return;
         }
-        place = step.next;
+        walker = stepped.walker;
         left -= 1;
     }
 }

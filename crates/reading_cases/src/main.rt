@@ -19,7 +19,7 @@ fn print_step(flow: &[u8], shown: usize) {
     let step = walk::step_at(flow, WalkPlace { shown });
     let answer = step.answer;
     match answer {
-        Answer::Shown(k) => desk::print_record(k, walk::part_at(flow, step)),
+        Answer::Shown(k) => desk::print_record(k, walk::part_at(flow, answer)),
         Answer::NoMore => {
             io::write_all(STDOUT_FILENO, b"NO MORE\n");
         }

@@ -13,7 +13,8 @@ use Rattle.text.proofs.Numerals.{length-digits}
 use Rattle.text.proofs.Puts.{length-put, put-here, put-after}
 use Rattle.judge.specs.declared.Judgement.{Judgement}
 use Rattle.judge.specs.declared.Verdict.the-variants.{Accepted, Refused}
-use Rattle.report.specs.Printed.{widthOf, decimal, acceptedText, refusedText, judgementText, printedBytes, printedSize, Printed, Appended}
+use Rattle.report.specs.Printed.{widthOf, decimal, acceptedText, refusedText, judgementText, printedBytes, printedSize, Printed}
+use Rattle.report.specs.Appended.{Appended}
 use Rattle.report.proofs.Widths.{width-twenty, width-enough}
 
 -- The parts of which a put is made.
@@ -121,7 +122,3 @@ module _ (j : Judgement) where
   pub refused-text : {n r p : ℕ} → j .verdict ≡ Refused n r p → judgementText j ≡ refusedText n r p
   unfolding judgementText
   refused-text e = rw e
-
--- What printing leaves and answers is determined by the text and the room.
-pub printed-one : {t r x y : List ℕ} {m n : ℕ} → Printed t r x m → Printed t r y n → (x ≡ y) × (m ≡ n)
-printed-one p q = (p .bytes ∙ sym (q .bytes), p .size ∙ sym (q .size))

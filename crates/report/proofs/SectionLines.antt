@@ -9,7 +9,8 @@ use lib.Seq.{length-take-le, take-suc, take-all}
 use Rattle.layout.specs.Sections.{sectionAt}
 use Rattle.rules.specs.declared.Sums.{Sums}
 use Rattle.rules.specs.State.{noSums}
-use Rattle.report.specs.Printed.{sectionText, sectionsFrom, sectionsText, Appended}
+use Rattle.report.specs.Printed.{sectionText, sectionsFrom, sectionsText}
+use Rattle.report.specs.Appended.{Appended}
 use Rattle.report.proofs.Appending.{append-none, append-on}
 
 -- The subtype of a section's lines has two digits.

@@ -1,4 +1,4 @@
--- What the programs print: document 01's lines as bytes, and what printing leaves in a room that is lent for them.
+-- Believed. What the programs print: document 01's lines as bytes, and what printing leaves in a room that is lent for them.
 use Prim.Native.Nat.{ℕ, zero, suc, _+_, _/_, _≤_}
 use mathlib.Core.Path.{_≡_}
 use mathlib.Core.List.{List, [], _∷_, _++_}
@@ -113,11 +113,3 @@ pub record Printed (t r r' : List ℕ) (n : ℕ) : Type 0 where
   pub short : n ≤ 512
   pub within : n ≤ length r'
   pub counts : n ≡ length (take n r')
-
--- "One space stands between fields": one step of printing puts t, of at most m bytes, at s of the room r, up to e, and leaves r'
-pub record Appended (s : ℕ) (t : List ℕ) (m : ℕ) (r r' : List ℕ) (e : ℕ) : Type 0 where
-  pub bytes : r' ≡ putAt s t r
-  pub next : e ≡ s + length t
-  pub short : length t ≤ m
-  pub fits : e ≤ length r
-  pub same : length r' ≡ length r

@@ -1,90 +1,102 @@
--- On an accepted flow the k-th step of a walk from the start shows record k, and after the last record the walk stays at its end.
-use Prim.Native.Nat.{ℕ, zero, suc, _+_, _-_, _/_, _<_, _≤_}
-use mathlib.Core.Path.{_≡_, refl, ap, _∙_}
+-- On an accepted flow the k-th `step_on` from `new` shows record k, and after the last record the walker stays at its end.
+use Prim.Native.Nat.{ℕ, suc, _/_, _<_, _≤_}
+use mathlib.Core.Path.{_≡_, refl, subst, ap, _∙_}
 use mathlib.Core.List.{List}
+use mathlib.Core.Bool.{Bool, true, false}
 use native.Mathlib.Omega.{arith}
 use native.Mathlib.Numerals.{add-one}
-use borrow.Author.Tests.{lt-ltb, le-ltb}
+use borrow.Author.Tests.{lt-ltb, le-ltb, ltb-true, ltb-false}
+use lib.Dec.{ltb}
 use lib.ListN.{length}
+use denote.Ref.{RefT, now}
 use Rattle.judge.specs.declared.Verdict.the-variants.{Accepted}
 use Rattle.judge.specs.Flow.{recordsOf, judged}
 use Rattle.judge.proofs.Accepted.{accepted-means-no-fault}
-use Rattle.judge.proofs.Counts.{length-chunks}
+use Rattle.judge.proofs.Records.{length-chunks, record-there, record-number}
 use Rattle.walk.specs.declared.WalkPlace.{WalkPlace}
 use Rattle.walk.specs.declared.Answer.{Answer}
 use Rattle.walk.specs.declared.Answer.the-variants.{Shown, NoMore}
-use Rattle.walk.specs.Walk.{placeStart, placeNext, answerAt, placeAfter, stepAt, partIn, startIn, placeFrom, stepFromStart, Shows, Ends}
-use Rattle.walk.proofs.Records.{record-there, record-number}
+use Rattle.walk.specs.declared.Walker.{Walker}
+use Rattle.walk.specs.declared.Stepped.{Stepped}
+use Rattle.walk.specs.Walk.{placeNext, answerAt, placeAfter, HandedBack, walkerAt, SteppedOn}
+use Rattle.walk.specs.Steps.{KthStep, first, next, ShowsRecord, ShowsNoMore}
 
--- the place after n records
-abbrev at : ℕ → WalkPlace
-at n = record { shown = n }
+-- a walker is its flow and its place
+pub same-walker : {w : Walker} {f : RefT (List ℕ)} {p : WalkPlace} → w .flow ≡ f → w .place ≡ p → w ≡ record { flow = f; place = p }
+same-walker e h = λ i. record { flow = e i; place = h i }
 
-module _ (f : List ℕ) (e : judged f .verdict ≡ Accepted) where
-  shows-next : (n : ℕ) → n < length f / 120 → answerAt f (at n) ≡ Shown (n + 1)
-  unfolding answerAt
-  shows-next n h = rw (e, lt-ltb _ _ h)
+-- the part of a step whose answer is known
+pub part-for : {w : Walker} {s : Stepped} {a : Answer} → SteppedOn w s → s .answer ≡ a → HandedBack (w .flow) a (s .part)
+part-for {w} {s} p e = subst (λ (x : Answer). HandedBack (w .flow) x (s .part)) e (p .part)
 
-  moves-on : (n : ℕ) → n < length f / 120 → placeAfter (answerAt f (at n)) (at n) ≡ at (n + 1)
-  unfolding placeNext
-  moves-on n h =
-      let w = accepted-means-no-fault f e .whole .short in
-      let b : n < 18446744073709551615 = omega arith in
-      rw (shows-next n h, lt-ltb _ _ b)
+-- and the walker after it
+pub walker-for : {w : Walker} {s : Stepped} {a : Answer} → SteppedOn w s → s .answer ≡ a → s .walker ≡ record { flow = w .flow; place = placeAfter a (w .place) }
+walker-for {w} p e = same-walker (p .flow) (p .place ∙ ap (λ (x : Answer). placeAfter x (w .place)) e)
 
-  -- after n steps n records were shown
-  place-after-steps : (n : ℕ) → n ≤ length f / 120 → placeFrom f placeStart n ≡ at n
-  unfolding placeFrom
-  place-after-steps zero h = refl
-  place-after-steps (suc n) h = rw (place-after-steps n (omega arith)) (moves-on n (omega arith) ∙ ap at (add-one n))
+module _ (flow : RefT (List ℕ)) (e : judged (now flow) .verdict ≡ Accepted) where
+  module _ (n : ℕ) (h : n < length (now flow) / 120) where
+    shows-next : answerAt (now flow) (walkerAt flow n .place) ≡ Shown (suc n)
+    unfolding answerAt
+    shows-next = rw (e, lt-ltb _ _ h) (ap Shown (add-one n))
+
+    moves-on : placeNext (walkerAt flow n .place) ≡ walkerAt flow (suc n) .place
+    unfolding placeNext
+    moves-on =
+        let w = accepted-means-no-fault (now flow) e .whole .short in
+        let b : n < 18446744073709551615 = omega arith in
+        rw (lt-ltb _ _ b) (ap (λ (m : ℕ). walkerAt flow m .place) (add-one n))
+
+    -- a step of the walker that has shown n records, where there is one more
+    step-shows : {s : Stepped} → SteppedOn (walkerAt flow n) s → ShowsRecord flow (suc n) s
+    step-shows p =
+        let a : _ ≡ Shown (suc n) = p .answer ∙ shows-next in
+        let l = part-for p a in
+        let r = record-there (now flow) (suc n) (λ x. omega arith) (omega arith) in
+        record {
+          answer = a;
+          part = (l .0 ∙ record-number (now flow) (suc n) (omega arith), l .1, l .2 ∙ omega (arith, r .1));
+          walker = walker-for p a ∙ same-walker refl moves-on;
+        }
 
   -- "The k-th step from the start hands back the k-th record as a part of the flow"
-  pub walk-shows-records : (k : ℕ) → 0 < k → k ≤ length (recordsOf f) → Shows f k (stepFromStart f k)
-  walk-shows-records k z h =
-      let l = length-chunks (length f / 120) f in
-      let s : k - 1 + 1 ≡ k = omega arith in
-      let p = place-after-steps (k - 1) (omega arith) in
-      let a : answerAt f (placeFrom f placeStart (k - 1)) ≡ Shown k = rw p (shows-next (k - 1) (omega arith) ∙ ap Shown s) in
-      let r = record-there f k (λ x. omega arith) (omega arith) in
-      record {
-        answer = a;
-        part = ap (partIn f) a ∙ record-number f k z;
-        start = ap (startIn f) a ∙ (r .1 ∙ omega arith);
-        place = ap (λ (x : WalkPlace). placeAfter (answerAt f x) x .shown) p ∙ (ap (λ (x : WalkPlace). x .shown) (moves-on (k - 1) (omega arith)) ∙ s);
-      }
+  pub walker-shows-records : {k : ℕ} {s : Stepped} → KthStep (walkerAt flow 0) k s → k ≤ length (recordsOf (now flow)) → ShowsRecord flow k s
+  walker-shows-records (first p) h = step-shows 0 (omega (arith, length-chunks (length (now flow) / 120) (now flow))) p
+  walker-shows-records (next {k} {s} {t} q p) h =
+      let i = walker-shows-records q (omega arith) .walker in
+      step-shows k (omega (arith, length-chunks (length (now flow) / 120) (now flow))) (subst (λ (w : Walker). SteppedOn w t) i p)
 
-  module _ (p : WalkPlace) (h : length (recordsOf f) ≤ p .shown) where
-    no-more : answerAt f p ≡ NoMore
-    unfolding answerAt
-    no-more =
-        let l = length-chunks (length f / 120) f in
-        let b : length f / 120 ≤ p .shown = omega arith in
-        rw (e, le-ltb _ _ b)
+-- At EF's end, or at a place beyond it
+module _ (w : Walker) (e : judged (now (w .flow)) .verdict ≡ Accepted) (h : length (recordsOf (now (w .flow))) ≤ w .place .shown) where
+  no-more : answerAt (now (w .flow)) (w .place) ≡ NoMore
+  unfolding answerAt
+  no-more =
+      let l = length-chunks (length (now (w .flow)) / 120) (now (w .flow)) in
+      let b : length (now (w .flow)) / 120 ≤ w .place .shown = omega arith in
+      rw (e, le-ltb _ _ b)
 
-    stays-there : (n : ℕ) → placeFrom f p n ≡ p
-    unfolding placeFrom
-    stays-there zero = refl
-    stays-there (suc n) = rw (stays-there n, no-more)
+  step-stays : {s : Stepped} → SteppedOn w s → ShowsNoMore w s
+  step-stays p =
+      let a : _ ≡ NoMore = p .answer ∙ no-more in
+      record { answer = a; part = part-for p a; walker = walker-for p a }
 
-    -- "At EF's end, or at a place beyond it, it answers that there is no more, with an empty part, and the place stays", however many steps are taken
-    pub walk-ends : (n : ℕ) → Ends f p (stepAt f (placeFrom f p n))
-    walk-ends n =
-        let s = stays-there n in
-        let a : answerAt f (placeFrom f p n) ≡ NoMore = rw s no-more in
-        record { answer = a; part = ap (partIn f) a; stays = ap (λ (x : Answer). placeAfter x (placeFrom f p n)) a ∙ s }
+  -- "At EF's end, or at a place beyond it, it answers that there is no more, with an empty part, and the place stays", however many steps are taken
+  pub walker-ends : {k : ℕ} {s : Stepped} → KthStep w k s → ShowsNoMore w s
+  walker-ends (first p) = step-stays p
+  walker-ends (next {k} {s} {t} q p) = step-stays (subst (λ (v : Walker). SteppedOn v t) (walker-ends q .walker) p)
 
-  -- the place after the last record, and after any number of steps more
-  past-the-end : (m n : ℕ) → n ≡ length (recordsOf f) + m → placeFrom f placeStart n ≡ at (length (recordsOf f))
-  unfolding placeFrom
-  past-the-end zero n h =
-      let l = length-chunks (length f / 120) f in
-      place-after-steps n (omega arith) ∙ ap at (omega arith)
-  past-the-end (suc m) zero h = absurd (omega arith)
-  past-the-end (suc m) (suc n) h = rw (past-the-end m n (omega arith), no-more (at (length (recordsOf f))) (omega arith))
+module _ (flow : RefT (List ℕ)) (e : judged (now flow) .verdict ≡ Accepted) where
+  -- the walker that has shown every record
+  abbrev walked : Walker
+  walked = walkerAt flow (length (recordsOf (now flow)))
 
   -- the same of a walk from the start, at each step after the one that shows the last record
-  pub walk-from-start-ends : (k : ℕ) → length (recordsOf f) < k → Ends f (at (length (recordsOf f))) (stepFromStart f k)
-  unfolding placeFrom
-  walk-from-start-ends k h =
-      let p = past-the-end (k - 1 - length (recordsOf f)) (k - 1) (omega arith) in
-      rw p (walk-ends (at (length (recordsOf f))) (omega arith) 0)
+  pub walker-ends-after-last : {k : ℕ} {s : Stepped} → KthStep (walkerAt flow 0) k s → length (recordsOf (now flow)) < k → ShowsNoMore walked s
+  walker-ends-after-last (first {s} p) h = step-stays walked e (omega arith) (subst (λ (w : Walker). SteppedOn w s) (ap (walkerAt flow) (omega arith)) p)
+  walker-ends-after-last (next {k} {s} {t} q p) h =
+      step-stays walked e (omega arith) (subst (λ (w : Walker). SteppedOn w t) (go (ltb (length (recordsOf (now flow))) k) refl (λ l. walker-ends-after-last q l .walker)) p)
+    where
+      go : (b : Bool) → ltb (length (recordsOf (now flow))) k ≡ b → (length (recordsOf (now flow)) < k → s .walker ≡ walked) → s .walker ≡ walked
+      go true i ih = ih (ltb-true _ _ i)
+      go false i ih =
+          let l : k ≤ length (recordsOf (now flow)) = ltb-false _ _ i in
+          walker-shows-records flow e q l .walker ∙ ap (walkerAt flow) (omega arith)

@@ -1,4 +1,3 @@
-pub mod Records
 pub mod EachRecord
 pub mod Refusals
-pub mod OneStep
+pub mod OneAnswer

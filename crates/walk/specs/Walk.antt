@@ -1,28 +1,26 @@
--- The walk over a flow: its answers, its places, and the parts of the flow that it shows.
-use Prim.Native.Nat.{ℕ, zero, suc, _+_, _-_, _*_, _/_}
+-- Believed. The walk over a flow: its answers, its places, the parts of the flow that it shows, and what is promised of a step.
+use Prim.Native.Nat.{ℕ, _+_, _/_}
 use mathlib.Core.Path.{_≡_}
 use mathlib.Core.Bool.{cond}
-use mathlib.Core.List.{List, [], _∷_}
-use lib.Dec.{eqb, ltb}
-use lib.ListN.{length, getD}
+use mathlib.Core.List.{List, []}
+use lib.Dec.{ltb}
+use lib.ListN.{length}
 use denote.Ref.{RefT, now}
-use Rattle.judge.specs.Refusal.{Refusal, refusal, noRefusal, refusalOf, judgedFirst}
-use Rattle.judge.specs.Flow.{recordsOf, judged}
+use Rattle.judge.specs.Refusal.{Refusal, refusal, noRefusal, judgedFirst}
+use Rattle.judge.specs.Flow.{judged}
 use Rattle.judge.specs.Part.{recordAt, recordStart, LiesAt}
 use Rattle.walk.specs.declared.WalkPlace.{WalkPlace}
 use Rattle.walk.specs.declared.Answer.{Answer}
 use Rattle.walk.specs.declared.Answer.the-variants.{Shown, NoMore, Refused}
 use Rattle.walk.specs.declared.Step.{Step}
+use Rattle.walk.specs.declared.Walker.{Walker}
+use Rattle.walk.specs.declared.Stepped.{Stepped}
 
 -- the refusal of an answer; a record shown and the end have none
 abbrev pub refusalIn : Answer → Refusal
 refusalIn (Shown k) = noRefusal
 refusalIn NoMore = noRefusal
 refusalIn (Refused n r p) = refusal n r p
-
--- "its present place, which is the number of records shown": none at the start
-abbrev pub placeStart : WalkPlace
-placeStart = record { shown = 0 }
 
 -- "forward only": one more, where a usize holds it
 unfoldable pub placeNext : WalkPlace → WalkPlace
@@ -48,49 +46,24 @@ partIn f (Shown k) = recordAt f k
 partIn f NoMore = []
 partIn f (Refused n r p) = []
 
--- the part that "the k-th step from the start hands back"
-abbrev pub partOf : List ℕ → Step → List ℕ
-partOf f s = partIn f (s .answer)
-
 -- "as a part of the flow": the index at which the part for an answer starts
 abbrev pub startIn : List ℕ → Answer → ℕ
 startIn f (Shown k) = recordStart f k
 startIn f NoMore = 0
 startIn f (Refused n r p) = 0
 
--- "as a part of the flow": the index at which the part that a step hands back starts
-abbrev pub startOf : List ℕ → Step → ℕ
-startOf f s = startIn f (s .answer)
+-- "hands back the k-th record as a part of the flow": what is promised of the part for an answer
+abbrev pub HandedBack : RefT (List ℕ) → Answer → RefT (List ℕ) → Type 0
+HandedBack flow a r = LiesAt flow (partIn (now flow) a) (startIn (now flow) a) r
 
--- "hands back the k-th record as a part of the flow": what is promised of the part that a step hands back
-abbrev pub HandedBack : RefT (List ℕ) → Step → RefT (List ℕ) → Type 0
-HandedBack flow s r = LiesAt flow (partOf (now flow) s) (startOf (now flow) s) r
+-- "holding the flow and its present place, which is the number of records shown"
+abbrev pub walkerAt : RefT (List ℕ) → ℕ → Walker
+walkerAt flow n = record { flow = flow; place = record { shown = n } }
 
--- "forward only, holding the flow and its present place": the place after n steps
-unfoldable pub placeFrom : List ℕ → WalkPlace → ℕ → WalkPlace
-placeFrom f p zero = p
-placeFrom f p (suc n) = stepAt f (placeFrom f p n) .next
-
--- "The k-th step from the start"
-abbrev pub stepFromStart : List ℕ → ℕ → Step
-stepFromStart f k = stepAt f (placeFrom f placeStart (k - 1))
-
--- "The k-th step from the start hands back the k-th record as a part of the flow": its answer, its part, where that starts, and the place after it
-pub record Shows (f : List ℕ) (k : ℕ) (s : Step) : Type 0 where
-  pub answer : s .answer ≡ Shown k
-  pub part : partOf f s ≡ getD (recordsOf f) (k - 1) []
-  pub start : startOf f s ≡ (k - 1) * 120
-  pub place : s .next .shown ≡ k
-
--- "it answers that there is no more, with an empty part, and the place stays"
-pub record Ends (f : List ℕ) (p : WalkPlace) (s : Step) : Type 0 where
-  pub answer : s .answer ≡ NoMore
-  pub part : partOf f s ≡ []
-  pub stays : s .next ≡ p
-
--- "A refused step does the same with its refusal"
-pub record Refuses (f : List ℕ) (n r q : ℕ) (p : WalkPlace) (s : Step) : Type 0 where
-  pub answer : s .answer ≡ Refused n r q
-  pub refusal : refusalIn (s .answer) ≡ refusalOf (judged f .verdict)
-  pub part : partOf f s ≡ []
-  pub stays : s .next ≡ p
+-- what is promised of a step of the walker w: the answer at w's place and the part for that answer; and the walker after it "forward only, holding the
+-- flow", the same one, at the place after that answer
+pub record SteppedOn (w : Walker) (r : Stepped) : Type 0 where
+  pub answer : r .answer ≡ answerAt (now (w .flow)) (w .place)
+  pub part : HandedBack (w .flow) (r .answer) (r .part)
+  pub flow : r .walker .flow ≡ w .flow
+  pub place : r .walker .place ≡ placeAfter (r .answer) (w .place)

@@ -1,6 +1,6 @@
 // The walk over a flow, record by record, forward only.
 ghost use mathlib.Core.Path.{_≡_};
-ghost use Rattle.walk.specs.Walk.{placeStart, placeNext, answerAt, placeAfter, stepAt, HandedBack};
+ghost use Rattle.walk.specs.Walk.{placeNext, answerAt, placeAfter, stepAt, HandedBack, walkerAt, SteppedOn};
 use judge::Verdict;
 use layout::Flow;
 
@@ -10,15 +10,8 @@ pub struct WalkPlace {
 }
 
 impl WalkPlace {
-    // The place of a walk that has shown nothing.
-    pub fn start() -> Self
-        ensures { λ r. ⌜ r ≡ placeStart ⌝ }
-    {
-        WalkPlace { shown: 0 }
-    }
-
     // The place after one more record. The largest number has none after it, and stays.
-    pub fn next(self) -> Self
+    fn next(self) -> Self
         ensures { λ r. ⌜ r ≡ placeNext self ⌝ }
     {
         let shown = self.shown;
@@ -48,14 +41,15 @@ pub struct Walker<'a> {
     pub place: WalkPlace,
 }
 
-// What a step of a walk hands back: the record as a part of the flow, and the step.
+// What a step of a walk hands back: the record as a part of the flow, the answer, and the walk moved on.
 pub struct Stepped<'a> {
     pub part: &'a [u8],
-    pub step: Step,
+    pub answer: Answer,
+    pub walker: Walker<'a>,
 }
 
 // The answer of a step from a place. The flow is judged first.
-pub fn answer_at(flow: &[u8], place: WalkPlace) -> Answer
+fn answer_at(flow: &[u8], place: WalkPlace) -> Answer
     ensures { λ r. ⌜ r ≡ answerAt (now (flow .entry)) place ⌝ }
 {
     let judgement = judge::judge(flow);
@@ -71,7 +65,7 @@ pub fn answer_at(flow: &[u8], place: WalkPlace) -> Answer
 }
 
 // The place after an answer: the next one after a record shown, else the same.
-pub fn place_after(answer: Answer, place: WalkPlace) -> WalkPlace
+fn place_after(answer: Answer, place: WalkPlace) -> WalkPlace
     ensures { λ r. ⌜ r ≡ placeAfter answer place ⌝ }
 {
     match answer {
@@ -90,11 +84,10 @@ pub fn step_at(flow: &[u8], place: WalkPlace) -> Step
     Step { answer, next }
 }
 
-// The record that a step shows, within the caller's own buffer; an empty part where it shows none.
-pub fn part_at(flow: &[u8], step: Step) -> &[u8]
-    ensures { λ r. ⌜ HandedBack (flow .entry) step r ⌝ }
+// The record that an answer shows, within the caller's own buffer; an empty part where it shows none.
+pub fn part_at(flow: &[u8], answer: Answer) -> &[u8]
+    ensures { λ r. ⌜ HandedBack (flow .entry) answer r ⌝ }
 {
-    let answer = step.answer;
     match answer {
         Answer::Shown(k) => judge::nth_record(flow, k),
         Answer::NoMore => &flow[0..0],
@@ -104,7 +97,7 @@ pub fn part_at(flow: &[u8], step: Step) -> &[u8]
 
 // A walk from the start of a flow.
 pub fn new<'a>(flow: &'a [u8]) -> Walker<'a>
-    ensures { λ r. ⌜ (r .flow ≡ flow .entry) × (r .place ≡ placeStart) ⌝ }
+    ensures { λ r. ⌜ r ≡ walkerAt (flow .entry) 0 ⌝ }
 {
     Walker {
         flow,
@@ -112,11 +105,19 @@ pub fn new<'a>(flow: &'a [u8]) -> Walker<'a>
     }
 }
 
-// A step of a walk, with the record that it shows within the flow, or an empty part.
+// A step of a walk: the record that it shows within the flow, or an empty part, and the walk at the place after it.
 pub fn step_on<'a>(w: Walker<'a>) -> Stepped<'a>
-    ensures { λ r. ⌜ (r .step ≡ stepAt (now (w .entry .flow)) (w .entry .place)) × HandedBack (w .entry .flow) (r .step) (r .part) ⌝ }
+    ensures { λ r. ⌜ SteppedOn (w .entry) r ⌝ }
 {
-    let step = step_at(w.flow, w.place);
-    let part = part_at(w.flow, step);
-    Stepped { part, step }
+    let answer = answer_at(w.flow, w.place);
+    let part = part_at(w.flow, answer);
+    let place = place_after(answer, w.place);
+    Stepped {
+        part,
+        answer,
+        walker: Walker {
+            flow: w.flow,
+            place,
+        },
+    }
 }

@@ -1,4 +1,4 @@
--- `part_at` meets its contract: the record shown is that of `record_at`, and any other answer has an empty part.
+-- `part_at` meets its contract: the record shown is that of `judge::nth_record`, and any other answer has an empty part.
 use mathlib.Core.Path.{refl}
 use native.Mathlib.Omega.{arith}
 use borrow.Author.Needs.{needs}
@@ -8,8 +8,8 @@ use Rattle.walk.proofs.part_at.Tie as tie
 enum-known-answer : tie.Need-enum-known-answer
 enum-known-answer c = search needs
 
-record-at-requires : tie.Need-record-at-requires
-record-at-requires c κs = search needs
+nth-record-requires : tie.Need-nth-record-requires
+nth-record-requires c κs = search needs
 
 enum-told : tie.Need-enum-told
 enum-told c = search needs
@@ -36,7 +36,7 @@ part-result-end-2 : tie.Need-part-result-end-2
 part-result-end-2 c = search needs
 
 returns : tie.Need-returns
-returns c = rw (c .before .before .answer .given .1) (c .record-at .ensures)
+returns c = rw (c .before .before .answer .given .1) (c .nth-record .ensures)
 
 returns-2 : tie.Need-returns-2
 returns-2 c = rw (c .before .enum-told .given .1) (refl, refl, omega arith)
@@ -49,7 +49,7 @@ part-at-spec =
     tie.close
     (tie.spec
     enum-known-answer
-    record-at-requires
+    nth-record-requires
     enum-told
     sub-result
     part-result-start
