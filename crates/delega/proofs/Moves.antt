@@ -7,22 +7,20 @@ use native.Mathlib.Omega.{arith}
 use borrow.Author.Tests.{eqb-true}
 use lib.Dec.{eqb, ltb}
 use lib.ListN.{length, length-set}
-use Rattle.text.specs.Characters.{firstBad}
 use Rattle.layout.specs.declared.Kind.{Kind}
 use Rattle.layout.specs.declared.Kind.the-variants.{Head, Taxpayer, Domicile, Line, Balance, Payment, Receipt, Addressee, Tail, Unknown}
-use Rattle.layout.specs.Kinds.{ofLine, ofPayment, typeIn, kindIn}
-use Rattle.layout.specs.Fields.{delegaNumber, fieldsOf, valueOf}
+use Rattle.layout.specs.Kinds.{ofLine, ofPayment, kindIn}
+use Rattle.layout.specs.Fields.{delegaNumber, valueOf}
 use Rattle.rules.specs.declared.Sums.{Sums}
 use Rattle.rules.specs.declared.DelegaSums.{DelegaSums}
-use Rattle.rules.specs.declared.Outcome.the-variants.{Pass, Fault}
+use Rattle.rules.specs.declared.Outcome.the-variants.{Pass}
 use Rattle.rules.specs.declared.State.{State}
 use Rattle.rules.specs.State.{zeroDelega, startState, atStart, afterHead, afterTaxpayer, afterDomicile, afterLine, afterBalance, afterPayment, afterReceipt, afterAddressee}
-use Rattle.rules.specs.Order.{among, stands, standing}
-use Rattle.rules.specs.Checks.{charFault, badFields, carried, numberFault, fault}
+use Rattle.rules.specs.Order.{among, stands}
+use Rattle.rules.specs.Checks.{numberFault, fault}
 use Rattle.rules.specs.Step.{addedAt, lineSums, nextOf, next}
-use Rattle.rules.proofs.FirstFault.{five-pass}
 use Rattle.judge.specs.Plain.{NoFault}
-use Rattle.judge.proofs.Accepted.{right-of}
+use Rattle.judge.proofs.Accepted.{right-of, carried-number}
 
 -- a delega is open from its record 10 to its 50-01: 1 where the last record was one of these, else 0
 abbrev pub openAt : ℕ → ℕ
@@ -91,21 +89,9 @@ balance-open p a e = go (eqb p afterLine) refl e
     go true i f = ap openAt (eqb-true p afterLine i)
     go false i f = absurd (false≢true f)
 
--- check 8 passes only where the number is the one that is expected
-pub carried-number : (d v : ℕ) → carried d v ≡ Pass → v ≡ d
-unfolding carried
-carried-number d v e = go (eqb v d) refl e
-  where
-    go : (b : Bool) → eqb v d ≡ b → cond b Pass (Fault 8 4) ≡ Pass → v ≡ d
-    go true q f = eqb-true v d q
-    go false q f = let z : _≡_ {A = ℕ} 0 1 = cc in absurd (omega arith)
-
 -- a record that passes stands so
 pub standing-of : (name : List ℕ) (st : State) (r : List ℕ) → fault name st r ≡ Pass → Standing st r
-unfolding fault
-standing-of name st r e =
-    let p = five-pass (charFault (firstBad r)) (standing (st .stage) (typeIn r) (kindIn r)) (badFields (fieldsOf (kindIn r)) r) (numberFault (st .deleghe) (kindIn r) (valueOf r delegaNumber)) _ e in
-    record { ordered = right-of name st r e .ordered; numbered = p .3 }
+standing-of name st r e = let a = right-of name st r e in record { ordered = a .ordered; numbered = a .numbered }
 
 -- so do records without a fault
 pub each-standing : (name : List ℕ) (st : State) (rs : List (List ℕ)) → NoFault name st rs → Each Standing st rs
