@@ -1,4 +1,4 @@
--- The number that a word says: one to twenty digits and nothing else, where 64 bits hold it.
+-- Believed. The number that a word says: one to twenty digits and nothing else, where 64 bits hold it.
 use Prim.Native.Nat.{ℕ, _^_}
 use mathlib.Core.Bool.{cond}
 use mathlib.Core.List.{List}

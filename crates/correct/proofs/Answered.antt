@@ -8,7 +8,7 @@ use native.Mathlib.Omega.{arith}
 use native.Mathlib.Decide.{ℕ-discrete, decLt}
 use borrow.Author.Tests.{eq-eqb, ne-eqb}
 use Rattle.rules.specs.State.{startState}
-use Rattle.rules.specs.Amounts.{lineRight}
+use Rattle.amounts.specs.Amounts.{lineRight}
 use Rattle.judge.specs.declared.Verdict.{Verdict}
 use Rattle.judge.specs.declared.Verdict.the-variants as Judged
 use Rattle.judge.specs.Flow.{judged}

@@ -6,7 +6,7 @@ use lib.ListN.{length}
 use Rattle.layout.specs.declared.Kind.{Kind}
 use Rattle.layout.specs.declared.Kind.the-variants.{Head, Taxpayer, Domicile, Line, Balance, Payment, Receipt, Addressee, Tail, Unknown}
 use Rattle.layout.specs.Kinds.{sectionKind, kindIn}
-use Rattle.rules.specs.declared.Stage.{Stage}
+use Rattle.order.specs.declared.Stage.{Stage}
 use Rattle.rules.specs.declared.State.{State}
 use Rattle.rules.specs.State.{startState}
 use Rattle.rules.specs.Stored.{storedOf}

@@ -8,7 +8,7 @@ use native.Mathlib.Omega.{arith}
 use borrow.Author.Tests.{ltb-false, le-ltb, eqb-false, ne-eqb}
 use lib.Dec.{eqb, ltb}
 use Rattle.rules.specs.State.{startState}
-use Rattle.rules.specs.Amounts.{lineRight}
+use Rattle.amounts.specs.Amounts.{lineRight}
 use Rattle.judge.specs.declared.Verdict.{Verdict}
 use Rattle.judge.specs.declared.Verdict.the-variants as Judged
 use Rattle.judge.specs.Refusal.{judgedFirst}

@@ -13,13 +13,14 @@ use Rattle.layout.specs.declared.Kind.the-variants.{Head, Taxpayer, Domicile, L
 use Rattle.layout.specs.Sections.{sectionAt}
 use Rattle.layout.specs.Kinds.{kindIn}
 use Rattle.layout.specs.Fields.{amountAt, delegaNumber, bytesOf, valueOf}
-use Rattle.rules.specs.declared.Sums.{Sums}
+use Rattle.amounts.specs.declared.Sums.{Sums}
 use Rattle.rules.specs.declared.State.{State}
-use Rattle.rules.specs.declared.Outcome.the-variants.{Pass, Fault}
-use Rattle.rules.specs.Amounts.{lineRight, lineFault}
+use Rattle.amounts.specs.declared.Outcome.the-variants.{Pass, Fault}
+use Rattle.amounts.specs.Amounts.{lineRight, lineFault}
 use Rattle.rules.specs.Stored.{storedOf}
 use Rattle.rules.specs.Checks.{charFault, badFields, negativeFault, ownFault}
-use Rattle.rules.specs.Step.{nextStage, nextDeleghe, nextOf, next}
+use Rattle.order.specs.Order.{nextStage}
+use Rattle.rules.specs.Step.{nextDeleghe, nextOf, next}
 use Rattle.rebalance.specs.Rebalance.{fitsAll, allFit, keptFault, Mendable}
 use Rattle.rebalance.proofs.Written.{both-true, digits-pass}
 use Rattle.rebalance.proofs.Columns.{line-within}

@@ -20,9 +20,9 @@ use Rattle.layout.specs.declared.Kind.the-variants.{Line, Balance, Payment, Tai
 use Rattle.layout.specs.Sections.{sectionAt}
 use Rattle.layout.specs.Kinds.{kindIn}
 use Rattle.layout.specs.Fields.{amountAt, delegaNumber, finalBalance, tailSum, valueOf}
-use Rattle.rules.specs.declared.Sums.{Sums}
+use Rattle.amounts.specs.declared.Sums.{Sums}
 use Rattle.rules.specs.declared.State.{State}
-use Rattle.rules.specs.declared.Outcome.the-variants.{Pass}
+use Rattle.amounts.specs.declared.Outcome.the-variants.{Pass}
 use Rattle.rules.specs.State.{startState}
 use Rattle.rules.specs.Stored.{Stored, sectionSums, storedOf}
 use Rattle.rules.specs.Checks.{carried, numberFault, fault}

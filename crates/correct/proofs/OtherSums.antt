@@ -9,7 +9,7 @@ use lib.Seq.{getD-set-other, set-set, set-comm}
 use Rattle.layout.specs.declared.Kind.{Kind}
 use Rattle.layout.specs.declared.Kind.the-variants.{Head, Taxpayer, Domicile, Line, Balance, Payment, Receipt, Addressee, Tail, Unknown}
 use Rattle.layout.specs.Kinds.{kindIn}
-use Rattle.rules.specs.declared.Sums.{Sums}
+use Rattle.amounts.specs.declared.Sums.{Sums}
 use Rattle.rules.specs.declared.DelegaSums.{DelegaSums}
 use Rattle.rules.specs.declared.Money.{Money}
 use Rattle.rules.specs.declared.State.{State}

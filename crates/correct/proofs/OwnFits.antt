@@ -12,14 +12,16 @@ use lib.Seq.{getD-set-other}
 use Rattle.layout.specs.declared.Kind.{Kind}
 use Rattle.layout.specs.declared.Kind.the-variants.{Line, Balance, Payment, Tail}
 use Rattle.layout.specs.Kinds.{kindIn}
-use Rattle.rules.specs.declared.Sums.{Sums}
+use Rattle.amounts.specs.declared.Sums.{Sums}
 use Rattle.rules.specs.declared.Money.{Money}
-use Rattle.rules.specs.declared.Stage.{Stage}
+use Rattle.order.specs.declared.Stage.{Stage}
 use Rattle.rules.specs.declared.State.{State}
-use Rattle.rules.specs.State.{noSums, afterLine, afterBalance, afterTail}
-use Rattle.rules.specs.Amounts.{finalOf}
+use Rattle.rules.specs.State.{noSums}
+use Rattle.order.specs.Stages.{afterLine, afterBalance, afterTail}
+use Rattle.amounts.specs.Amounts.{finalOf}
 use Rattle.rules.specs.Stored.{sectionSums, storedSection, storedOf}
-use Rattle.rules.specs.Step.{addedAt, nextStage, next}
+use Rattle.rules.specs.Step.{addedAt, next}
+use Rattle.order.specs.Order.{nextStage}
 use Rattle.judge.specs.Plain.{stateAfter}
 use Rattle.delega.proofs.Moves.{Standing, Each}
 use Rattle.delega.proofs.OwnRecords.{payment-delega, atClosing}

@@ -9,11 +9,11 @@ use borrow.Author.Tests.{leb-true, leb-false}
 use lib.ListN.{getD}
 use Rattle.layout.specs.Sections.{sectionAt}
 use Rattle.layout.specs.Kinds.{kindIn}
-use Rattle.rules.specs.declared.Sums.{Sums}
+use Rattle.amounts.specs.declared.Sums.{Sums}
 use Rattle.rules.specs.declared.DelegaSums.{DelegaSums}
 use Rattle.rules.specs.declared.State.{State}
 use Rattle.rules.specs.State.{noSums, startState}
-use Rattle.rules.specs.Amounts.{apart, finalOf}
+use Rattle.amounts.specs.Amounts.{apart, finalOf}
 use Rattle.rules.specs.Stored.{storedSection, storedOf}
 use Rattle.rules.specs.Step.{next}
 use Rattle.judge.specs.declared.Verdict.the-variants.{Accepted}

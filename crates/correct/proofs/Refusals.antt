@@ -5,7 +5,7 @@ use mathlib.Core.Bool.{false}
 use mathlib.Core.List.{List}
 use mathlib.Core.Logic.{_⊎_, _↔_}
 use native.Mathlib.Omega.{arith}
-use Rattle.rules.specs.Amounts.{lineRight}
+use Rattle.amounts.specs.Amounts.{lineRight}
 use Rattle.judge.specs.declared.Verdict.{Verdict}
 use Rattle.judge.specs.declared.Verdict.the-variants as Judged
 use Rattle.judge.specs.Refusal.{Refusal, refusal, noRefusal, refusalOf}

@@ -13,7 +13,7 @@ use Rattle.layout.specs.declared.Kind.the-variants.{Balance, Payment, Tail}
 use Rattle.layout.specs.Sections.{sectionAt}
 use Rattle.layout.specs.Kinds.{kindIn}
 use Rattle.layout.specs.Fields.{amountAt}
-use Rattle.rules.specs.declared.Sums.{Sums}
+use Rattle.amounts.specs.declared.Sums.{Sums}
 use Rattle.rules.specs.declared.State.{State}
 use Rattle.rules.specs.Stored.{Stored, Value, storedBalance, sectionSums, storedOf}
 use Rattle.rules.specs.Step.{lineSums, next}

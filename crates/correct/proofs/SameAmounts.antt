@@ -12,7 +12,7 @@ use Rattle.layout.specs.Fields.{amountAt, bytesOf, valueOf}
 use Rattle.layout.proofs.Table.{row-rule}
 use Rattle.rules.specs.declared.State.{State}
 use Rattle.rules.specs.State.{startState}
-use Rattle.rules.specs.Amounts.{lineRight}
+use Rattle.amounts.specs.Amounts.{lineRight}
 use Rattle.rules.specs.Step.{next}
 use Rattle.judge.specs.declared.Verdict.the-variants.{Accepted}
 use Rattle.judge.specs.Flow.{recordsOf, headNameOf, judged}

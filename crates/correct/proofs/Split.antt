@@ -14,10 +14,11 @@ use Rattle.layout.specs.declared.Kind.{Kind}
 use Rattle.layout.specs.declared.Kind.the-variants.{Head, Taxpayer, Domicile, Line, Balance, Payment, Receipt, Addressee, Tail, Unknown}
 use Rattle.layout.specs.Sections.{sectionAt}
 use Rattle.layout.specs.Kinds.{ofLine, sectionKind, kindIn}
-use Rattle.rules.specs.declared.Stage.{Stage}
+use Rattle.order.specs.declared.Stage.{Stage}
 use Rattle.rules.specs.declared.State.{State}
 use Rattle.rules.specs.State.{startState}
-use Rattle.rules.specs.Step.{nextStage, nextDeleghe, next}
+use Rattle.order.specs.Order.{nextStage}
+use Rattle.rules.specs.Step.{nextDeleghe, next}
 use Rattle.judge.specs.declared.Verdict.the-variants.{Accepted}
 use Rattle.judge.specs.Flow.{recordsOf, judged}
 use Rattle.judge.specs.Plain.{stateAfter}

@@ -8,7 +8,7 @@ use lib.ListN.{length}
 use Rattle.layout.specs.declared.Kind.the-variants.{Line}
 use Rattle.layout.specs.Kinds.{kindIn}
 use Rattle.rules.specs.State.{startState}
-use Rattle.rules.specs.Order.{stands}
+use Rattle.order.specs.Order.{stands}
 use Rattle.judge.specs.declared.Verdict.the-variants.{Accepted}
 use Rattle.judge.specs.declared.Judgement.{Judgement}
 use Rattle.judge.specs.Flow.{acceptedWith, recordsOf, headNameOf, judged}

@@ -11,8 +11,9 @@ use Rattle.layout.specs.Fields.{delegaNumber, valueOf}
 use Rattle.rules.specs.declared.DelegaSums.{DelegaSums}
 use Rattle.rules.specs.declared.Money.{Money}
 use Rattle.rules.specs.declared.State.{State}
-use Rattle.rules.specs.State.{startState, afterTail}
-use Rattle.rules.specs.Amounts.{finalOf}
+use Rattle.rules.specs.State.{startState}
+use Rattle.order.specs.Stages.{afterTail}
+use Rattle.amounts.specs.Amounts.{finalOf}
 use Rattle.rules.specs.Step.{next}
 use Rattle.judge.specs.Plain.{sumOver, Side, Debit, Credit, sideOf, columnOf, linesIn, stateAfter}
 use Rattle.delega.proofs.Moves.{openAt, Between, between-start, Standing, Each, Move, Adds, Pays, Keeps, move-of}

@@ -15,7 +15,7 @@ use Rattle.text.proofs.Fits.{part-fits, part-written, number-fits, number-writt
 use Rattle.layout.specs.Sections.{sectionAt}
 use Rattle.layout.proofs.Table.{row-rule}
 use Rattle.rules.specs.State.{startState}
-use Rattle.rules.specs.Amounts.{lineRight}
+use Rattle.amounts.specs.Amounts.{lineRight}
 use Rattle.judge.specs.Flow.{recordsOf}
 use Rattle.judge.specs.Plain.{Whole}
 use Rattle.rebalance.specs.Rebalance.{allFit}

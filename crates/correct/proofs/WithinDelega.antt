@@ -10,12 +10,12 @@ use lib.Dec.{eqb, ltb}
 use Rattle.layout.specs.declared.Kind.{Kind}
 use Rattle.layout.specs.declared.Kind.the-variants.{Head, Taxpayer, Domicile, Line, Balance, Payment, Receipt, Addressee, Tail, Unknown}
 use Rattle.layout.specs.Kinds.{kindIn}
-use Rattle.rules.specs.declared.Stage.{Stage}
+use Rattle.order.specs.declared.Stage.{Stage}
 use Rattle.rules.specs.declared.State.{State}
-use Rattle.rules.specs.State.{atStart, afterHead, afterTaxpayer, afterDomicile, afterLine, afterBalance, afterPayment, afterReceipt, afterAddressee, afterTail}
-use Rattle.rules.specs.Order.{among, stands}
+use Rattle.order.specs.Stages.{atStart, afterHead, afterTaxpayer, afterDomicile, afterLine, afterBalance, afterPayment, afterReceipt, afterAddressee, afterTail}
+use Rattle.order.specs.Order.{among, stands}
 use Rattle.rules.specs.Stored.{storedOf}
-use Rattle.rules.specs.Step.{nextStage}
+use Rattle.order.specs.Order.{nextStage}
 use Rattle.delega.proofs.Moves.{Standing, Each}
 use Rattle.rebalance.proofs.Written.{both-true}
 

@@ -1,4 +1,4 @@
--- Demand 3: the line's amounts replaced, and every total, sign, balance and tail sum worked out afresh from all the lines.
+-- Believed. Demand 3: the line's amounts replaced, and every total, sign, balance and tail sum worked out afresh from all the lines.
 use Prim.Native.Nat.{ℕ, _+_, _-_, _*_}
 use mathlib.Core.Bool.{Bool, true, cond}
 use mathlib.Core.List.{List}
@@ -8,7 +8,7 @@ use Rattle.text.specs.Placing.{putAt}
 use Rattle.layout.specs.Sections.{sectionAt}
 use Rattle.layout.specs.Kinds.{ofLine, sectionKind}
 use Rattle.rules.specs.State.{startState}
-use Rattle.rules.specs.Amounts.{lineRight}
+use Rattle.amounts.specs.Amounts.{lineRight}
 use Rattle.judge.specs.Refusal.{Refusal, refusal, noRefusal}
 use Rattle.judge.specs.Flow.{recordsOf}
 use Rattle.rebalance.specs.Rebalance.{rebalanced, allFit, flat}

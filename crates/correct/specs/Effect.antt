@@ -1,4 +1,4 @@
--- Believed by who reads the theorems. The flow with a line's amounts replaced, the amounts that a line has, and what a series of calls leaves.
+-- For theorems. The flow with a line's amounts replaced, the amounts that a line has, and what a series of calls leaves.
 use Prim.Native.Nat.{ℕ, _-_}
 use mathlib.Core.List.{List, [], _∷_}
 use lib.ListN.{getD}

@@ -1,4 +1,4 @@
--- Believed by who reads the theorems. What a correction answers and when, in the words of document 01: over the plain records of the flow, and by plain sums over those of the flow with
+-- For theorems. What a correction answers and when, in the words of document 01: over the plain records of the flow, and by plain sums over those of the flow with
 -- the line's amounts replaced.
 use Prim.Native.Nat.{ℕ, _-_, _<_}
 use mathlib.Core.Path.{_≡_}
@@ -6,7 +6,7 @@ use mathlib.Core.Bool.{true, false}
 use mathlib.Core.List.{List}
 use mathlib.Core.Logic.{_⊎_}
 use Rattle.layout.specs.Sections.{sectionAt}
-use Rattle.rules.specs.Amounts.{apart, lineRight}
+use Rattle.amounts.specs.Amounts.{apart, lineRight}
 use Rattle.judge.specs.declared.Verdict.the-variants as Judged
 use Rattle.judge.specs.Flow.{recordsOf, judged}
 use Rattle.judge.specs.Plain.{Debit, Credit, linesIn}

@@ -1,4 +1,4 @@
--- What the inner functions of a correction write, at indexes of the flow.
+-- Serves inner functions. What the inner functions of a correction write, at indexes of the flow.
 use Prim.Native.Nat.{ℕ, _+_, _/_, _<_, _≤_}
 use mathlib.Core.List.{List}
 use lib.ListN.{length}

@@ -94,7 +94,7 @@ fn try_line(flow: &mut [u8], k: usize, s: usize, debit: u64, credit: u64) -> Cor
     if Amount::LARGEST < credit {
         return Correction::Refused(22, 0, 0);
     }
-    if rules::line_right(s, debit, credit) {
+    if amounts::line_right(s, debit, credit) {
         let section = layout::section_at(s);
         let start = (k - 1) * 120;
         return replace(

@@ -12,7 +12,7 @@ use lib.Seq.{getD-set-same, getD-set-other}
 use Rattle.layout.specs.declared.Kind.the-variants.{Line}
 use Rattle.layout.specs.Kinds.{ofLine, kindIn}
 use Rattle.layout.specs.Fields.{valueOf}
-use Rattle.rules.specs.declared.Sums.{Sums}
+use Rattle.amounts.specs.declared.Sums.{Sums}
 use Rattle.rules.specs.declared.DelegaSums.{DelegaSums}
 use Rattle.rules.specs.declared.State.{State}
 use Rattle.rules.specs.State.{noSums, zeroDelega, startState}

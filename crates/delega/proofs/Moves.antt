@@ -11,12 +11,13 @@ use Rattle.layout.specs.declared.Kind.{Kind}
 use Rattle.layout.specs.declared.Kind.the-variants.{Head, Taxpayer, Domicile, Line, Balance, Payment, Receipt, Addressee, Tail, Unknown}
 use Rattle.layout.specs.Kinds.{ofLine, ofPayment, kindIn}
 use Rattle.layout.specs.Fields.{delegaNumber, valueOf}
-use Rattle.rules.specs.declared.Sums.{Sums}
+use Rattle.amounts.specs.declared.Sums.{Sums}
 use Rattle.rules.specs.declared.DelegaSums.{DelegaSums}
-use Rattle.rules.specs.declared.Outcome.the-variants.{Pass}
+use Rattle.amounts.specs.declared.Outcome.the-variants.{Pass}
 use Rattle.rules.specs.declared.State.{State}
-use Rattle.rules.specs.State.{zeroDelega, startState, atStart, afterHead, afterTaxpayer, afterDomicile, afterLine, afterBalance, afterPayment, afterReceipt, afterAddressee}
-use Rattle.rules.specs.Order.{among, stands}
+use Rattle.rules.specs.State.{zeroDelega, startState}
+use Rattle.order.specs.Stages.{atStart, afterHead, afterTaxpayer, afterDomicile, afterLine, afterBalance, afterPayment, afterReceipt, afterAddressee}
+use Rattle.order.specs.Order.{among, stands}
 use Rattle.rules.specs.Checks.{numberFault, fault}
 use Rattle.rules.specs.Step.{addedAt, lineSums, nextOf, next}
 use Rattle.judge.specs.Plain.{NoFault}

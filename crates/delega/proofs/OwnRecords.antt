@@ -14,7 +14,8 @@ use Rattle.layout.specs.Fields.{delegaNumber, valueOf}
 use Rattle.rules.specs.declared.DelegaSums.{DelegaSums}
 use Rattle.rules.specs.declared.Money.{Money}
 use Rattle.rules.specs.declared.State.{State}
-use Rattle.rules.specs.State.{zeroDelega, startState, afterTail}
+use Rattle.rules.specs.State.{zeroDelega, startState}
+use Rattle.order.specs.Stages.{afterTail}
 use Rattle.rules.specs.Step.{added, addedAt, lineSums, next}
 use Rattle.judge.specs.Plain.{sumOver, Side, Debit, Credit, stateAfter}
 use Rattle.delega.specs.OneDelega.{closesAt}

@@ -9,12 +9,12 @@ use lib.ListN.{length, getD}
 use Rattle.layout.specs.declared.Kind.the-variants.{Line, Payment}
 use Rattle.layout.specs.Kinds.{ofLine, ofPayment, kindIn}
 use Rattle.layout.specs.Fields.{finalBalance, valueOf}
-use Rattle.rules.specs.declared.Sums.{Sums}
+use Rattle.amounts.specs.declared.Sums.{Sums}
 use Rattle.rules.specs.declared.DelegaSums.{DelegaSums}
-use Rattle.rules.specs.declared.Outcome.the-variants.{Pass, Fault}
+use Rattle.amounts.specs.declared.Outcome.the-variants.{Pass, Fault}
 use Rattle.rules.specs.declared.State.{State}
 use Rattle.rules.specs.State.{noSums, zeroDelega, startState}
-use Rattle.rules.specs.Amounts.{finalOf}
+use Rattle.amounts.specs.Amounts.{finalOf}
 use Rattle.rules.specs.Checks.{negativeFault, fault}
 use Rattle.rules.specs.Step.{next}
 use Rattle.judge.specs.declared.Verdict.the-variants.{Accepted}

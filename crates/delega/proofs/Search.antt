@@ -11,7 +11,8 @@ use Rattle.layout.specs.declared.Kind.{Kind}
 use Rattle.layout.specs.declared.Kind.the-variants.{Head, Taxpayer, Domicile, Line, Balance, Payment, Receipt, Addressee, Tail, Unknown}
 use Rattle.layout.specs.Kinds.{kindIn}
 use Rattle.rules.specs.declared.State.{State}
-use Rattle.rules.specs.State.{noSums, startState, Small, StateBelow}
+use Rattle.rules.specs.State.{noSums, startState}
+use Rattle.rules.specs.Bounds.{Small, StateBelow}
 use Rattle.rules.specs.Values.{valuesIn}
 use Rattle.rules.specs.Step.{lineSums, nextOf, next}
 use Rattle.rules.proofs.Growth.{start-below, state-on}

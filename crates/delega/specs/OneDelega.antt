@@ -1,4 +1,4 @@
--- What is answered for one delega of a flow.
+-- Believed. What is answered for one delega of a flow.
 use Prim.Native.Nat.{ℕ}
 use mathlib.Core.Bool.{Bool, false, cond}
 use mathlib.Core.List.{List, [], _∷_}
@@ -7,7 +7,7 @@ use Rattle.layout.specs.declared.Kind.{Kind}
 use Rattle.layout.specs.Kinds.{ofPayment, kindIn}
 use Rattle.rules.specs.declared.State.{State}
 use Rattle.rules.specs.State.{zeroSections, startState}
-use Rattle.rules.specs.Amounts.{finalOf}
+use Rattle.amounts.specs.Amounts.{finalOf}
 use Rattle.rules.specs.Step.{next}
 use Rattle.judge.specs.declared.Verdict.the-variants.{Accepted, Refused}
 use Rattle.judge.specs.Refusal.{judgedFirst}

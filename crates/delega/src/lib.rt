@@ -4,11 +4,11 @@ ghost use Rattle.rules.specs.State.{startState};
 ghost use Rattle.judge.specs.Flow.{recordsOf};
 ghost use Rattle.judge.specs.Plain.{Whole};
 ghost use Rattle.delega.specs.OneDelega.{refusedAs, answered, closesAt, delegaFrom, delegaOf};
+use amounts::Sums;
 use judge::Verdict;
 use layout::Flow;
 use layout::Kind;
 use rules::State;
-use rules::Sums;
 
 // The verdict beside the delega's final balance and its sums of each of the five sections, which are zeros with a refusal.
 pub struct DelegaAnswer {
@@ -40,7 +40,7 @@ fn answer_of(st: State) -> DelegaAnswer
     let sums = delega.sections;
     DelegaAnswer {
         verdict: Verdict::Accepted,
-        balance: rules::final_of(delega.all),
+        balance: amounts::final_of(delega.all),
         sums,
     }
 }

@@ -1,4 +1,4 @@
--- What the header of a run case says: how long its flow is, and the numbers of its call.
+-- Serves inner functions. What the header of a run case says: how long its flow is, and the numbers of its call.
 use Prim.Native.Nat.{ℕ}
 use mathlib.Core.List.{List}
 use lib.ListN.{take, drop}

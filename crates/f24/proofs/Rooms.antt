@@ -8,7 +8,7 @@ use native.Mathlib.Omega.{arith}
 use lib.ListN.{length, drop, getD, set}
 use Rattle.text.specs.Placing.{putAt}
 use Rattle.text.proofs.Writing.{part-on, part-end}
-use Rattle.rules.specs.declared.Sums.{Sums}
+use Rattle.amounts.specs.declared.Sums.{Sums}
 use Rattle.rules.specs.State.{noSums}
 use Rattle.f24.specs.Linked.{overlay, codeOr, roomOr, sumsNumbers}
 

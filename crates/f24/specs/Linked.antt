@@ -4,7 +4,7 @@ use mathlib.Core.Bool.{cond}
 use mathlib.Core.List.{List, [], _∷_, _++_}
 use lib.Dec.{eqb, ltb}
 use lib.ListN.{length, drop}
-use Rattle.rules.specs.declared.Sums.{Sums}
+use Rattle.amounts.specs.declared.Sums.{Sums}
 use Rattle.judge.specs.declared.Summary.{Summary}
 use Rattle.judge.specs.Refusal.{Refusal, refusalOf}
 use Rattle.judge.specs.Flow.{judged}

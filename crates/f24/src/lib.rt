@@ -5,11 +5,11 @@ ghost use Prim.Native.Nat.{_≤_};
 ghost use lib.ListN.{length};
 ghost use Rattle.f24.specs.Linked.{overlay, summaryNumbers, delegaNumbers, refusalNumbers};
 ghost use Rattle.f24.specs.Linked.{judgeCode, judgeRoom, delegaCode, delegaRoom, findCode, findRoom, correctCode, correctRoom, correctFlow};
+use amounts::Sums;
 use correct::Correction;
 use find::Found;
 use judge::Summary;
 use judge::Verdict;
-use rules::Sums;
 
 // What is returned where the room for the answer is too short.
 const NO_ROOM: u64 = 100;

@@ -14,13 +14,14 @@ use Rattle.layout.specs.declared.Kind.the-variants.{Head, Taxpayer, Domicile, L
 use Rattle.layout.specs.Kinds.{ofLine, kindIn}
 use Rattle.layout.specs.Fields.{delegaNumber, valueOf}
 use Rattle.layout.proofs.OtherKinds.{no-line}
-use Rattle.rules.specs.declared.Outcome.the-variants.{Pass}
-use Rattle.rules.specs.declared.Stage.{Stage}
+use Rattle.amounts.specs.declared.Outcome.the-variants.{Pass}
+use Rattle.order.specs.declared.Stage.{Stage}
 use Rattle.rules.specs.declared.State.{State}
-use Rattle.rules.specs.State.{stageAt, atStart, afterTaxpayer, afterDomicile, afterLine, afterBalance}
-use Rattle.rules.specs.Order.{stands}
+use Rattle.order.specs.Stages.{stageAt, atStart, afterTaxpayer, afterDomicile, afterLine, afterBalance}
+use Rattle.order.specs.Order.{stands}
 use Rattle.rules.specs.Checks.{numberFault}
-use Rattle.rules.specs.Step.{nextStage, nextDeleghe, next}
+use Rattle.order.specs.Order.{nextStage}
+use Rattle.rules.specs.Step.{nextDeleghe, next}
 use Rattle.judge.specs.Plain.{NoFault}
 use Rattle.judge.proofs.Accepted.{right-of, carried-number}
 use Rattle.find.specs.Line.{isLine, lineFrom}

@@ -10,9 +10,10 @@ use Rattle.layout.proofs.OtherKinds.{no-line}
 use Rattle.layout.specs.declared.Kind.{Kind}
 use Rattle.layout.specs.declared.Kind.the-variants.{Head, Taxpayer, Domicile, Line, Balance, Payment, Receipt, Addressee, Tail, Unknown}
 use Rattle.layout.specs.Kinds.{sectionKind, kindIn}
-use Rattle.rules.specs.declared.Stage.{Stage}
-use Rattle.rules.specs.State.{stageAt, atStart}
-use Rattle.rules.specs.Step.{nextStage, nextDeleghe}
+use Rattle.order.specs.declared.Stage.{Stage}
+use Rattle.order.specs.Stages.{stageAt, atStart}
+use Rattle.order.specs.Order.{nextStage}
+use Rattle.rules.specs.Step.{nextDeleghe}
 use Rattle.judge.specs.declared.Verdict.the-variants.{Accepted, Refused}
 use Rattle.judge.specs.Flow.{chunks, recordsOf, restOf, judged}
 use Rattle.judge.proofs.Records.{chunks-on}

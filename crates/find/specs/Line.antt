@@ -1,13 +1,14 @@
--- "A line is named by delega number, line subtype and its place in the section, counted from 1."
+-- Believed. "A line is named by delega number, line subtype and its place in the section, counted from 1."
 use Prim.Native.Nat.{ℕ, _+_}
 use mathlib.Core.Bool.{Bool, false, cond}
 use mathlib.Core.List.{List, [], _∷_}
 use lib.Dec.{eqb}
 use Rattle.layout.specs.declared.Kind.{Kind}
 use Rattle.layout.specs.Kinds.{ofLine, sectionKind, kindIn}
-use Rattle.rules.specs.declared.Stage.{Stage}
-use Rattle.rules.specs.State.{stageAt, atStart}
-use Rattle.rules.specs.Step.{nextStage, nextDeleghe}
+use Rattle.order.specs.declared.Stage.{Stage}
+use Rattle.order.specs.Stages.{stageAt, atStart}
+use Rattle.order.specs.Order.{nextStage}
+use Rattle.rules.specs.Step.{nextDeleghe}
 use Rattle.judge.specs.Refusal.{Refusal, refusal, noRefusal, judgedFirst}
 use Rattle.judge.specs.Flow.{recordsOf, judged}
 use Rattle.find.specs.declared.Found.{Found}

@@ -1,4 +1,4 @@
--- Believed by who reads the theorems. The n-th line of a section in a delega, over the plain records of a flow: "A line is named by delega number, line
+-- For theorems. The n-th line of a section in a delega, over the plain records of a flow: "A line is named by delega number, line
 -- subtype and its place in the section, counted from 1."
 use Prim.Native.Nat.{ℕ, _+_, _-_, _≤_, _<_}
 use mathlib.Core.Path.{_≡_}

@@ -1,4 +1,4 @@
--- "A found line is handed back as that record within the caller's own buffer; a refusal hands back an empty part."
+-- Believed. "A found line is handed back as that record within the caller's own buffer; a refusal hands back an empty part."
 use Prim.Native.Nat.{ℕ}
 use mathlib.Core.List.{List, []}
 use Rattle.judge.specs.Part.{recordAt, recordStart}

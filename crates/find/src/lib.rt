@@ -2,7 +2,7 @@
 ghost use mathlib.Core.Path.{_≡_};
 ghost use Prim.Native.Nat.{_<_, _≤_};
 ghost use lib.ListN.{length};
-ghost use Rattle.rules.specs.State.{stageAt, atStart};
+ghost use Rattle.order.specs.Stages.{stageAt, atStart};
 ghost use Rattle.judge.specs.Flow.{recordsOf};
 ghost use Rattle.judge.specs.Part.{LiesAt};
 ghost use Rattle.find.specs.Line.{isLine, lineFrom, foundIn};
@@ -10,7 +10,7 @@ ghost use Rattle.find.specs.Part.{partStart, partOf};
 use judge::Verdict;
 use layout::Flow;
 use layout::Kind;
-use rules::Stage;
+use order::Stage;
 
 // The answer: the number of the line's record, counted from 1, or the refusal.
 pub enum Found {
@@ -54,7 +54,7 @@ fn line_in(flow: &[u8], delega: u64, section: usize, nth: u64) -> usize
         if is_line(delega, section, nth, at, opened, kind) {
             return k + 1;
         }
-        at = rules::next_stage(at, kind);
+        at = order::next_stage(at, kind);
         opened = rules::next_deleghe(opened, kind);
         k += 1;
     }

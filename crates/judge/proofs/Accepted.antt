@@ -13,19 +13,22 @@ use Rattle.layout.specs.declared.Kind.{Kind}
 use Rattle.layout.specs.declared.Kind.the-variants.{Head, Taxpayer, Domicile, Line, Balance, Payment, Receipt, Addressee, Tail, Unknown}
 use Rattle.layout.specs.Kinds.{same, typeOf, typeIn, kindIn}
 use Rattle.layout.specs.Fields.{delegaNumber, fieldsOf, valueOf}
-use Rattle.rules.specs.declared.Stage.{Stage}
-use Rattle.rules.specs.declared.Outcome.{Outcome}
-use Rattle.rules.specs.declared.Outcome.the-variants.{Pass, Fault}
+use Rattle.order.specs.declared.Stage.{Stage}
+use Rattle.amounts.specs.declared.Outcome.{Outcome}
+use Rattle.amounts.specs.declared.Outcome.the-variants.{Pass, Fault}
 use Rattle.rules.specs.declared.State.{State}
-use Rattle.rules.specs.State.{startState, afterTail}
-use Rattle.rules.specs.Order.{first, stands, typeStands, standing}
+use Rattle.rules.specs.State.{startState}
+use Rattle.order.specs.Stages.{afterTail}
+use Rattle.amounts.specs.Outcomes.{first}
+use Rattle.order.specs.Order.{stands, typeStands, standing}
 use Rattle.rules.specs.Stored.{storedOf, wrong}
 use Rattle.rules.specs.Checks.{charFault, badFields, carried, numberFault, ownFault, fault}
-use Rattle.rules.specs.Step.{nextStage, next}
+use Rattle.order.specs.Order.{nextStage}
+use Rattle.rules.specs.Step.{next}
 use Rattle.judge.specs.declared.Verdict.the-variants.{Accepted}
 use Rattle.judge.specs.declared.Judgement.{Judgement}
 use Rattle.judge.specs.Flow.{refusedWith, acceptedWith, closing, after, judgedFrom, recordsOf, headNameOf, judged}
-use Rattle.rules.proofs.FirstFault.{first-pass, five-pass}
+use Rattle.amounts.proofs.Outcomes.{first-pass, five-pass}
 use Rattle.judge.specs.Plain.{lastOf, stateAfter, NoFault, Whole, Sound}
 
 -- a record that passes may stand where it stands, carries the number that it should, and breaks no rule of its own and of its stored fields

@@ -18,17 +18,18 @@ use Rattle.layout.specs.declared.Kind.the-variants.{Head, Taxpayer, Domicile, L
 use Rattle.layout.specs.Sections.{sectionAt}
 use Rattle.layout.specs.Kinds.{typeIn, kindIn}
 use Rattle.layout.specs.Fields.{amountAt, creationDate, delegaNumber, fieldsOf, supportName, bytesOf, valueOf}
-use Rattle.rules.specs.declared.Sums.{Sums}
-use Rattle.rules.specs.declared.Stage.{Stage}
-use Rattle.rules.specs.declared.Outcome.{Outcome}
-use Rattle.rules.specs.declared.Outcome.the-variants.{Pass, Fault}
+use Rattle.amounts.specs.declared.Sums.{Sums}
+use Rattle.order.specs.declared.Stage.{Stage}
+use Rattle.amounts.specs.declared.Outcome.{Outcome}
+use Rattle.amounts.specs.declared.Outcome.the-variants.{Pass, Fault}
 use Rattle.rules.specs.declared.State.{State}
-use Rattle.rules.specs.Order.{first, firstOf, stands, full, typeStands, standing}
-use Rattle.rules.specs.Amounts.{lineRight, lineFault, dateRight}
-use Rattle.rules.specs.Names.{nameRight, sameBytes}
+use Rattle.amounts.specs.Outcomes.{first, firstOf}
+use Rattle.order.specs.Order.{stands, full, typeStands, standing}
+use Rattle.amounts.specs.Amounts.{lineRight, lineFault, dateRight}
+use Rattle.amounts.specs.Names.{nameRight, sameBytes}
 use Rattle.rules.specs.Stored.{Stored, Value, Mark, sectionSums, storedBalance, storedOf, right, faultOf, wrong}
 use Rattle.rules.specs.Checks.{charFault, orBad, badFields, carried, numberFault, negativeFault, headName, tailName, dateFault, ownChecks, ownFault, fault}
-use Rattle.rules.proofs.FirstFault.{first-assoc, firstOf-cons, firstOf-append}
+use Rattle.amounts.proofs.Outcomes.{first-assoc, firstOf-cons, firstOf-append}
 use Rattle.judge.specs.Plain.{orderCheck, mostCheck, fieldCheck, storedCheck, checksOf, AtLeast, AllAtLeast}
 
 -- each group of checks is its single checks, the first that fails

@@ -15,7 +15,7 @@ use Rattle.layout.specs.declared.Kind.{Kind}
 use Rattle.layout.specs.declared.Kind.the-variants.{Line, Balance, Payment, Receipt, Addressee, Unknown}
 use Rattle.layout.specs.Sections.{sections}
 use Rattle.layout.specs.Kinds.{sectionKindFrom, paymentKind, kindOf, typeIn, subtypeIn, kindIn}
-use Rattle.rules.specs.declared.Outcome.the-variants.{Pass}
+use Rattle.amounts.specs.declared.Outcome.the-variants.{Pass}
 use Rattle.rules.specs.declared.State.{State}
 use Rattle.rules.specs.State.{startState}
 use Rattle.rules.specs.Checks.{fault}

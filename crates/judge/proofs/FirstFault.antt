@@ -8,10 +8,11 @@ use native.Mathlib.Omega.{arith}
 use borrow.Author.Tests.{ltb-true, ltb-false, eqb-true, eqb-false, ne-eqb}
 use lib.Dec.{eqb, ltb}
 use lib.ListN.{length}
-use Rattle.rules.specs.declared.Outcome.{Outcome}
-use Rattle.rules.specs.declared.Outcome.the-variants.{Pass, Fault}
+use Rattle.amounts.specs.declared.Outcome.{Outcome}
+use Rattle.amounts.specs.declared.Outcome.the-variants.{Pass, Fault}
 use Rattle.rules.specs.declared.State.{State}
-use Rattle.rules.specs.State.{startState, afterTail}
+use Rattle.rules.specs.State.{startState}
+use Rattle.order.specs.Stages.{afterTail}
 use Rattle.rules.specs.Checks.{fault}
 use Rattle.rules.specs.Step.{next}
 use Rattle.judge.specs.declared.Verdict.{Verdict}

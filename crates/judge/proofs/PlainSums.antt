@@ -13,16 +13,18 @@ use Rattle.layout.specs.declared.Kind.{Kind}
 use Rattle.layout.specs.declared.Kind.the-variants.{Head, Taxpayer, Domicile, Line, Balance, Payment, Receipt, Addressee, Tail, Unknown}
 use Rattle.layout.specs.Kinds.{ofLine, ofPayment, kindIn}
 use Rattle.layout.specs.Fields.{finalBalance, valueOf}
-use Rattle.rules.specs.declared.Sums.{Sums}
+use Rattle.amounts.specs.declared.Sums.{Sums}
 use Rattle.rules.specs.declared.Money.{Money}
-use Rattle.rules.specs.declared.Outcome.the-variants.{Pass, Fault}
+use Rattle.amounts.specs.declared.Outcome.the-variants.{Pass, Fault}
 use Rattle.rules.specs.declared.State.{State}
-use Rattle.rules.specs.State.{noSums, startState, atStart, afterHead, afterTaxpayer, afterLine, afterBalance, afterPayment, afterReceipt, afterAddressee}
-use Rattle.rules.specs.Order.{among, stands}
-use Rattle.rules.specs.Amounts.{finalOf}
+use Rattle.rules.specs.State.{noSums, startState}
+use Rattle.order.specs.Stages.{atStart, afterHead, afterTaxpayer, afterLine, afterBalance, afterPayment, afterReceipt, afterAddressee}
+use Rattle.order.specs.Order.{among, stands}
+use Rattle.amounts.specs.Amounts.{finalOf}
 use Rattle.rules.specs.Stored.{storedOf, wrong}
 use Rattle.rules.specs.Checks.{ownFault, negativeFault}
-use Rattle.rules.specs.Step.{added, addedAt, lineSums, nextStage, nextMoney, next}
+use Rattle.rules.specs.Step.{added, addedAt, lineSums, nextMoney, next}
+use Rattle.order.specs.Order.{nextStage}
 use Rattle.judge.specs.declared.Verdict.the-variants.{Accepted}
 use Rattle.judge.specs.declared.Judgement.{Judgement}
 use Rattle.judge.specs.Flow.{recordsOf, headNameOf, judged}

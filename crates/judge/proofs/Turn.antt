@@ -24,12 +24,14 @@ use Rattle.layout.specs.declared.Kind.{Kind}
 use Rattle.layout.specs.Kinds.{typeIn, kindIn}
 use Rattle.layout.specs.Fields.{Within, nowhere, fieldsOf, bytesOf, valueOf, delegaNumber}
 use Rattle.layout.proofs.Within.{fields-within, fields-four}
-use Rattle.rules.specs.declared.Sums.{Sums}
-use Rattle.rules.specs.declared.Outcome.{Outcome}
-use Rattle.rules.specs.declared.Outcome.the-variants.{Pass, Fault}
+use Rattle.amounts.specs.declared.Sums.{Sums}
+use Rattle.amounts.specs.declared.Outcome.{Outcome}
+use Rattle.amounts.specs.declared.Outcome.the-variants.{Pass, Fault}
 use Rattle.rules.specs.declared.State.{State}
-use Rattle.rules.specs.State.{startState, Small, StateBelow}
-use Rattle.rules.specs.Order.{first, standing}
+use Rattle.rules.specs.State.{startState}
+use Rattle.rules.specs.Bounds.{Small, StateBelow}
+use Rattle.amounts.specs.Outcomes.{first}
+use Rattle.order.specs.Order.{standing}
 use Rattle.rules.specs.Checks.{charFault, orBad, badFields, numberFault, ownFault, fault}
 use Rattle.rules.specs.Stored.{storedOf, wrong}
 use Rattle.rules.specs.Values.{valuesIn, valuesOn}

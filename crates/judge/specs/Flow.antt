@@ -1,4 +1,4 @@
--- The judgement of a flow: the first fault in the order of the records, or acceptance with the counts and sums.
+-- Believed. The judgement of a flow: the first fault in the order of the records, or acceptance with the counts and sums.
 use Prim.Native.Nat.{ℕ, zero, suc, _+_, _-_, _*_, _/_, _%_, _≤_, _<_}
 use mathlib.Core.Path.{_≡_}
 use mathlib.Core.List.{List, [], _∷_}
@@ -6,10 +6,12 @@ use mathlib.Core.Bool.{Bool, true, false, cond}
 use lib.Dec.{eqb, ltb}
 use lib.ListN.{length, take, drop}
 use Rattle.layout.specs.Fields.{bytesOf, supportName}
-use Rattle.rules.specs.declared.Outcome.{Outcome}
-use Rattle.rules.specs.declared.Outcome.the-variants.{Pass, Fault}
+use Rattle.amounts.specs.declared.Outcome.{Outcome}
+use Rattle.amounts.specs.declared.Outcome.the-variants.{Pass, Fault}
 use Rattle.rules.specs.declared.State.{State}
-use Rattle.rules.specs.State.{zeroSections, startState, afterTail, StateBelow}
+use Rattle.rules.specs.State.{zeroSections, startState}
+use Rattle.order.specs.Stages.{afterTail}
+use Rattle.rules.specs.Bounds.{StateBelow}
 use Rattle.rules.specs.Checks.{fault}
 use Rattle.rules.specs.Step.{next}
 use Rattle.judge.specs.declared.Verdict.{Verdict}

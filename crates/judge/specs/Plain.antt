@@ -1,4 +1,4 @@
--- What a flow's judgement is measured by: plain counts and sums over its records, the records that pass, and the checks of a record one by one.
+-- For theorems. What a flow's judgement is measured by: plain counts and sums over its records, the records that pass, and the checks of a record one by one.
 use Prim.Native.Nat.{ℕ, _+_, _<_, _≤_, _%_}
 use mathlib.Core.Path.{_≡_}
 use mathlib.Core.Bool.{cond}
@@ -15,14 +15,14 @@ use Rattle.layout.specs.declared.Kind.the-variants.{Head, Taxpayer, Domicile, L
 use Rattle.layout.specs.Sections.{sectionAt}
 use Rattle.layout.specs.Kinds.{ofLine, ofPayment, typeIn, kindIn}
 use Rattle.layout.specs.Fields.{amountAt, finalBalance, delegaNumber, creationDate, supportName, fieldsOf, bytesOf, valueOf}
-use Rattle.rules.specs.declared.Sums.{Sums}
-use Rattle.rules.specs.declared.Stage.{Stage}
+use Rattle.amounts.specs.declared.Sums.{Sums}
+use Rattle.order.specs.declared.Stage.{Stage}
 use Rattle.rules.specs.declared.State.{State}
-use Rattle.rules.specs.declared.Outcome.{Outcome}
-use Rattle.rules.specs.declared.Outcome.the-variants.{Pass, Fault}
+use Rattle.amounts.specs.declared.Outcome.{Outcome}
+use Rattle.amounts.specs.declared.Outcome.the-variants.{Pass, Fault}
 use Rattle.rules.specs.State.{startState}
-use Rattle.rules.specs.Order.{stands, typeStands, full}
-use Rattle.rules.specs.Amounts.{lineFault}
+use Rattle.order.specs.Order.{stands, typeStands, full}
+use Rattle.amounts.specs.Amounts.{lineFault}
 use Rattle.rules.specs.Stored.{Stored, storedOf, right, faultOf}
 use Rattle.rules.specs.Checks.{charFault, orBad, numberFault, ownChecks, fault}
 use Rattle.rules.specs.Step.{next}

@@ -11,16 +11,16 @@ ghost use Rattle.layout.specs.Fields.{bytesOf, Within};
 ghost use Rattle.rules.specs.Checks.{charFault};
 ghost use Rattle.judge.specs.Part.{recordAt, recordStart, LiesAt};
 ghost use Rattle.judge.specs.Flow.{refusedWith, closing, headNameOf, restOf, judgedFrom, judged, Ready};
+use amounts::Outcome;
+use amounts::Sums;
 use layout::Field;
 use layout::Flow;
 use layout::Kind;
 use layout::Part;
 use layout::RecordType;
 pub use lines::line_sums;
-use rules::Outcome;
-use rules::Stage;
+use order::Stage;
 use rules::State;
-use rules::Sums;
 use text::Characters;
 use text::Digits;
 
@@ -165,7 +165,7 @@ fn judge_from(flow: &[u8], start: State) -> Judgement
         }
         let kind = kind_in(rec);
         let stage = st.stage;
-        if let Outcome::Fault(number, position) = rules::standing_of(stage, type_in(rec), kind) {
+        if let Outcome::Fault(number, position) = order::standing_of(stage, type_in(rec), kind) {
             break 'records refused(number, k + 1, position);
         }
         let fields = layout::fields_of(kind);

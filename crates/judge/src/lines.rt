@@ -5,9 +5,9 @@ ghost use Rattle.text.specs.Numbers.{amountOf};
 ghost use Rattle.layout.specs.Fields.{Within, valueOf};
 ghost use Rattle.rules.specs.Step.{lineSums};
 use crate::read_field;
+use amounts::Sums;
 use layout::Field;
 use layout::Kind;
-use rules::Sums;
 use text::Digits;
 
 // The number that was read, and 0 where none was.

@@ -1,4 +1,4 @@
--- The kind of a record, from its type at 2-3 and its subtype at 11-12.
+-- Believed. The kind of a record, from its type at 2-3 and its subtype at 11-12.
 use Prim.Native.Nat.{ℕ, _+_}
 use mathlib.Core.Bool.{Bool, true, false, cond}
 use mathlib.Core.List.{List, [], _∷_}

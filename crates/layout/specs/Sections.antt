@@ -1,4 +1,4 @@
--- The table of the five sections. Columns are given as document 01 and CBI-F24-001 count them; `at` turns them into indexes.
+-- Believed. The table of the five sections. Columns are given as document 01 and CBI-F24-001 count them; `at` turns them into indexes.
 use Prim.Native.Nat.{ℕ, _-_}
 use mathlib.Core.Bool.{Bool, true, false}
 use mathlib.Core.List.{List, [], _∷_}

@@ -22,15 +22,15 @@ use Rattle.layout.specs.Sections.{sections, noSection, sectionAt}
 use Rattle.layout.specs.Kinds.{sectionKindFrom, paymentKind, kindOf, typeIn, subtypeIn, kindIn}
 use Rattle.layout.specs.Fields.{amountAt, delegaNumber, finalBalance, tailDeleghe, tailSum, tailRecords, fieldsOf, bytesOf}
 use Rattle.layout.proofs.Table.{at-each}
-use Rattle.rules.specs.declared.Sums.{Sums}
+use Rattle.amounts.specs.declared.Sums.{Sums}
 use Rattle.rules.specs.declared.State.{State}
-use Rattle.rules.specs.declared.Outcome.{Outcome}
-use Rattle.rules.specs.declared.Outcome.the-variants.{Pass}
-use Rattle.rules.specs.Order.{first}
-use Rattle.rules.specs.Amounts.{signOf, apart}
+use Rattle.amounts.specs.declared.Outcome.{Outcome}
+use Rattle.amounts.specs.declared.Outcome.the-variants.{Pass}
+use Rattle.amounts.specs.Outcomes.{first}
+use Rattle.amounts.specs.Amounts.{signOf, apart}
 use Rattle.rules.specs.Stored.{Stored, Value, Mark, sectionSums, storedOf}
 use Rattle.rules.specs.Checks.{orBad, badFields}
-use Rattle.rules.proofs.FirstFault.{first-none}
+use Rattle.amounts.proofs.Outcomes.{first-none}
 use Rattle.rebalance.specs.Rebalance.{keptFields, clear}
 use Rattle.rebalance.proofs.Written.{both-true, laid, Printable, valueFields, digits-pass}
 

@@ -12,13 +12,13 @@ use Rattle.layout.specs.declared.Kind.{Kind}
 use Rattle.layout.specs.Kinds.{typeOf, kindOf, typeIn, kindIn}
 use Rattle.layout.specs.Fields.{delegaNumber, fieldsOf, valueOf}
 use Rattle.rules.specs.declared.State.{State}
-use Rattle.rules.specs.declared.Outcome.{Outcome}
-use Rattle.rules.specs.declared.Outcome.the-variants.{Pass, Fault}
-use Rattle.rules.specs.Order.{stands, full, typeStands, standing}
+use Rattle.amounts.specs.declared.Outcome.{Outcome}
+use Rattle.amounts.specs.declared.Outcome.the-variants.{Pass, Fault}
+use Rattle.order.specs.Order.{stands, full, typeStands, standing}
 use Rattle.rules.specs.Stored.{Stored, storedOf, wrong}
 use Rattle.rules.specs.Checks.{charFault, orBad, badFields, numberFault, tailName, ownFault, fault}
 use Rattle.rules.specs.Step.{lineSums, next}
-use Rattle.rules.proofs.FirstFault.{first-pass, five-pass}
+use Rattle.amounts.proofs.Outcomes.{first-pass, five-pass}
 use Rattle.rebalance.specs.Rebalance.{putAll, emit, fitsAll, clear, keptFields, keptFault}
 use Rattle.rebalance.proofs.Written.{byte-of, laid, length-putAll, putAll-clear, Holds, putAll-holds, holds-same, putAll-allowed, valueFields, holds-numbers, holds-pass, pass-fits, pass-holds}
 use Rattle.rebalance.proofs.Columns.{Storing, plain, balance, payment, tail, storing, Columns, columns, printable-stored, fields-same}

@@ -11,9 +11,9 @@ use Rattle.layout.specs.declared.Field.{Field}
 use Rattle.layout.specs.declared.Kind.the-variants.{Tail}
 use Rattle.layout.specs.Sections.{sectionAt}
 use Rattle.layout.specs.Fields.{amountAt, finalBalance, tailDeleghe, tailSum, tailRecords}
-use Rattle.rules.specs.declared.Sums.{Sums}
+use Rattle.amounts.specs.declared.Sums.{Sums}
 use Rattle.rules.specs.declared.State.{State}
-use Rattle.rules.specs.Amounts.{apart}
+use Rattle.amounts.specs.Amounts.{apart}
 use Rattle.rules.specs.Stored.{Stored, Value, storedBalance, storedSection, storedOf}
 use Rattle.rebalance.specs.Rebalance.{fitsOne, fitsAll}
 use Rattle.rebalance.proofs.Written.{both-true}

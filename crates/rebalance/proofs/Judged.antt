@@ -8,10 +8,11 @@ use lib.ListN.{length}
 use Rattle.layout.specs.declared.Kind.{Kind}
 use Rattle.layout.specs.declared.Kind.the-variants.{Head, Taxpayer, Domicile, Line, Balance, Payment, Receipt, Addressee, Tail, Unknown}
 use Rattle.layout.specs.Kinds.{kindIn}
-use Rattle.rules.specs.declared.Stage.{Stage}
+use Rattle.order.specs.declared.Stage.{Stage}
 use Rattle.rules.specs.declared.State.{State}
-use Rattle.rules.specs.State.{atStart, startState}
-use Rattle.rules.specs.Order.{among, stands}
+use Rattle.order.specs.Stages.{atStart}
+use Rattle.rules.specs.State.{startState}
+use Rattle.order.specs.Order.{among, stands}
 use Rattle.rules.specs.Stored.{storedOf}
 use Rattle.rules.specs.Step.{next}
 use Rattle.judge.specs.declared.Verdict.the-variants.{Accepted}

@@ -10,7 +10,8 @@ use lib.ListN.{length, take, drop, length-append}
 use lib.Seq.{length-take-le, take-at, take-all}
 use Rattle.layout.specs.Kinds.{kindIn}
 use Rattle.rules.specs.declared.State.{State}
-use Rattle.rules.specs.State.{startState, StateBelow}
+use Rattle.rules.specs.State.{startState}
+use Rattle.rules.specs.Bounds.{StateBelow}
 use Rattle.rules.specs.Stored.{storedOf}
 use Rattle.rules.specs.Step.{next}
 use Rattle.rules.proofs.Growth.{start-below}

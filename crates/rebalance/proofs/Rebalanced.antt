@@ -6,7 +6,7 @@ use mathlib.Core.List.{List, [], _∷_, _++_}
 use borrow.Author.Tests.{eq-eqb}
 use lib.ListN.{length}
 use Rattle.rules.specs.declared.State.{State}
-use Rattle.rules.specs.State.{afterTail}
+use Rattle.order.specs.Stages.{afterTail}
 use Rattle.rules.specs.Step.{next}
 use Rattle.judge.specs.Flow.{acceptedWith, closing, judgedFrom}
 use Rattle.judge.specs.Plain.{stateAfter, NoFault}

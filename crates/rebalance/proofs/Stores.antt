@@ -16,9 +16,9 @@ use Rattle.layout.specs.Sections.{sectionAt}
 use Rattle.layout.specs.Kinds.{kindIn}
 use Rattle.layout.specs.Fields.{amountAt}
 use Rattle.layout.proofs.Table.{near-rule}
-use Rattle.rules.specs.declared.Sums.{Sums}
+use Rattle.amounts.specs.declared.Sums.{Sums}
 use Rattle.rules.specs.declared.State.{State}
-use Rattle.rules.specs.Amounts.{signOf, apart}
+use Rattle.amounts.specs.Amounts.{signOf, apart}
 use Rattle.rules.specs.Stored.{storedBalance, storedSection, storedOf}
 use Rattle.rebalance.specs.Rebalance.{putAll, emit}
 

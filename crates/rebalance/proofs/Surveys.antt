@@ -7,7 +7,8 @@ use lib.ListN.{length, take, drop}
 use Rattle.layout.specs.declared.Kind.{Kind}
 use Rattle.layout.specs.Kinds.{kindIn}
 use Rattle.rules.specs.declared.State.{State}
-use Rattle.rules.specs.State.{startState, StateBelow}
+use Rattle.rules.specs.State.{startState}
+use Rattle.rules.specs.Bounds.{StateBelow}
 use Rattle.rules.specs.Stored.{storedOf}
 use Rattle.rules.specs.Step.{next}
 use Rattle.rules.proofs.Growth.{start-below}

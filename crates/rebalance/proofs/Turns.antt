@@ -9,9 +9,10 @@ use lib.Seq.{length-take-le}
 use Rattle.layout.specs.declared.Kind.{Kind}
 use Rattle.layout.specs.declared.Kind.the-variants.{Head, Taxpayer, Domicile, Line, Balance, Payment, Receipt, Addressee, Tail, Unknown}
 use Rattle.layout.specs.Kinds.{kindIn}
-use Rattle.rules.specs.declared.Sums.{Sums}
+use Rattle.amounts.specs.declared.Sums.{Sums}
 use Rattle.rules.specs.declared.State.{State}
-use Rattle.rules.specs.State.{noSums, Small, MoneyBelow, StateBelow}
+use Rattle.rules.specs.State.{noSums}
+use Rattle.rules.specs.Bounds.{Small, MoneyBelow, StateBelow}
 use Rattle.rules.specs.Values.{valuesIn}
 use Rattle.rules.specs.Step.{lineSums, nextOf, next}
 use Rattle.rules.proofs.Growth.{money-room, state-on}

@@ -18,8 +18,8 @@ use Rattle.text.proofs.Numerals.{number-below, number-digits, length-digits, di
 use Rattle.text.proofs.Puts.{length-put, put-here, put-after, put-before, put-same, put-allowed}
 use Rattle.layout.specs.declared.Field.{Field}
 use Rattle.layout.specs.Fields.{bytesOf, valueOf}
-use Rattle.rules.specs.declared.Outcome.{Outcome}
-use Rattle.rules.specs.declared.Outcome.the-variants.{Pass}
+use Rattle.amounts.specs.declared.Outcome.{Outcome}
+use Rattle.amounts.specs.declared.Outcome.the-variants.{Pass}
 use Rattle.rules.specs.Stored.{Stored, Value, Mark, right, faultOf, wrong}
 use Rattle.rules.specs.Checks.{orBad, badFields}
 use Rattle.rebalance.specs.Rebalance.{startOf, widthOf, textOf, putAll, fitsOne, fitsAll, clear}

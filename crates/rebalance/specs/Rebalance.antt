@@ -1,4 +1,4 @@
--- Rebalancing: every stored field of every record is written anew from the lines, and nothing else is touched.
+-- Believed down to `allFit`; what follows is for theorems. Rebalancing: every stored field of every record is written anew from the lines, and nothing else is touched.
 use Prim.Native.Nat.{ℕ, _+_, _-_, _^_}
 use mathlib.Core.Path.{_≡_}
 use mathlib.Core.Bool.{Bool, true, false, cond}
@@ -14,10 +14,11 @@ use Rattle.layout.specs.declared.Kind.the-variants.{Head, Taxpayer, Domicile, L
 use Rattle.layout.specs.Kinds.{typeIn, kindIn}
 use Rattle.layout.specs.Fields.{delegaNumber, creationDate, fieldsOf, valueOf}
 use Rattle.rules.specs.declared.State.{State}
-use Rattle.rules.specs.declared.Outcome.{Outcome}
-use Rattle.rules.specs.declared.Outcome.the-variants.{Pass}
-use Rattle.rules.specs.State.{afterTail}
-use Rattle.rules.specs.Order.{first, standing}
+use Rattle.amounts.specs.declared.Outcome.{Outcome}
+use Rattle.amounts.specs.declared.Outcome.the-variants.{Pass}
+use Rattle.order.specs.Stages.{afterTail}
+use Rattle.amounts.specs.Outcomes.{first}
+use Rattle.order.specs.Order.{standing}
 use Rattle.rules.specs.Stored.{Stored, Value, Mark, storedOf}
 use Rattle.rules.specs.Checks.{charFault, badFields, numberFault, ownFault}
 use Rattle.rules.specs.Step.{next}

@@ -1,4 +1,4 @@
--- What a flow comes to before anything is written: whether some delega is negative; and what a step over one record asks for.
+-- Believed; `Turn`, the last, serves inner functions. What a flow comes to before anything is written: whether some delega is negative; and what a step over one record asks for.
 use Prim.Native.Nat.{ℕ, _<_}
 use mathlib.Core.Path.{_≡_}
 use mathlib.Core.Bool.{Bool, true, false, cond}
@@ -8,7 +8,7 @@ use lib.ListN.{length}
 use Rattle.layout.specs.declared.Kind.{Kind}
 use Rattle.layout.specs.Kinds.{ofPayment, kindIn}
 use Rattle.rules.specs.declared.State.{State}
-use Rattle.rules.specs.State.{StateBelow}
+use Rattle.rules.specs.Bounds.{StateBelow}
 use Rattle.rules.specs.Step.{next}
 
 -- "negative is not": some delega has debits below its credits

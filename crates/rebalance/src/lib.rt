@@ -14,12 +14,12 @@ ghost use Rattle.judge.specs.Flow.{recordsOf};
 ghost use Rattle.judge.specs.Plain.{Whole};
 ghost use Rattle.rebalance.specs.Rebalance.{putAll, emit, rebalanced, fitsAll, allFit, flat};
 ghost use Rattle.rebalance.specs.Weigh.{negativeAt, anyNegative, Turn};
+use amounts::Sums;
 use layout::Amount;
 use layout::Field;
 use layout::Flow;
 use layout::Kind;
 use rules::State;
-use rules::Sums;
 
 // The most that a count of the tail can say in seven digits.
 const MOST_COUNT: u64 = 9_999_999;
@@ -56,7 +56,7 @@ fn balance_fits(s: usize, t: Sums) -> bool
     ensures { λ r. ⌜ r ≡ fitsAll (storedSection s t) ⌝ }
 {
     let section = layout::section_at(s);
-    let balance = rules::apart_of(t.debit, t.credit);
+    let balance = amounts::apart_of(t.debit, t.credit);
     if section.totals {
         if Amount::LARGEST < t.debit {
             return false;
@@ -99,7 +99,7 @@ fn stored_fit(st: State, k: Kind) -> bool
         Kind::Domicile => true,
         Kind::Line(_) => true,
         Kind::Balance(s) => balance_fits(s, rules::section_sums(st, s)),
-        Kind::Payment => rules::final_of(all) <= Amount::LARGEST,
+        Kind::Payment => amounts::final_of(all) <= Amount::LARGEST,
         Kind::Receipt => true,
         Kind::Addressee => true,
         Kind::Tail => tail_fits(st),
@@ -143,11 +143,11 @@ fn fill_ends(rec: &mut [u8], s: usize, t: Sums)
 {
     let section = layout::section_at(s);
     let at = section.sign;
-    rec[at] = rules::sign_of(t.debit, t.credit);
+    rec[at] = amounts::sign_of(t.debit, t.credit);
     store(
         &mut *rec,
         layout::amount_at(section.balance),
-        rules::apart_of(t.debit, t.credit),
+        amounts::apart_of(t.debit, t.credit),
     );
 }
 
@@ -192,7 +192,7 @@ fn fill(rec: &mut [u8], st: State, k: Kind)
         Kind::Domicile => {}
         Kind::Line(_) => {}
         Kind::Balance(s) => fill_balance(&mut *rec, s, rules::section_sums(st, s)),
-        Kind::Payment => store(&mut *rec, layout::FINAL_BALANCE, rules::final_of(all)),
+        Kind::Payment => store(&mut *rec, layout::FINAL_BALANCE, amounts::final_of(all)),
         Kind::Receipt => {}
         Kind::Addressee => {}
         Kind::Tail => fill_tail(&mut *rec, st),

@@ -2,7 +2,7 @@
 use Prim.Native.Nat.{ℕ}
 use mathlib.Core.Path.{_≡_, sym, _∙_}
 use mathlib.Core.List.{List}
-use Rattle.rules.specs.declared.Sums.{Sums}
+use Rattle.amounts.specs.declared.Sums.{Sums}
 use Rattle.judge.specs.declared.Judgement.{Judgement}
 use Rattle.report.specs.Printed.{refusedText, delegaText, lineText, judgementText, Printed}
 

@@ -7,7 +7,7 @@ use native.Mathlib.Omega.{arith}
 use lib.ListN.{length, take, getD}
 use lib.Seq.{length-take-le, take-suc, take-all}
 use Rattle.layout.specs.Sections.{sectionAt}
-use Rattle.rules.specs.declared.Sums.{Sums}
+use Rattle.amounts.specs.declared.Sums.{Sums}
 use Rattle.rules.specs.State.{noSums}
 use Rattle.report.specs.Printed.{sectionText, sectionsFrom, sectionsText}
 use Rattle.report.specs.Appended.{Appended}

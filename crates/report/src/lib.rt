@@ -8,10 +8,10 @@ ghost use Rattle.text.specs.Numbers.{digitsOf};
 ghost use Rattle.layout.specs.Sections.{sectionAt};
 ghost use Rattle.report.specs.Printed.{widthOf, decimal, fieldText, pairText, sectionText, sectionsText, acceptedText, refusedText, delegaText, lineText, judgementText, Printed};
 ghost use Rattle.report.specs.Appended.{Appended};
+use amounts::Sums;
 use judge::Judgement;
 use judge::Summary;
 use judge::Verdict;
-use rules::Sums;
 
 // The room in which every text fits.
 pub const ROOM: usize = 512;

@@ -8,13 +8,15 @@ use lib.ListN.{length, getD, set, replicate, length-set}
 use lib.Seq.{getD-set-same, getD-set-other, set-out}
 use Rattle.layout.specs.declared.Kind.{Kind}
 use Rattle.layout.specs.declared.Kind.the-variants.{Head, Taxpayer, Domicile, Line, Balance, Payment, Receipt, Addressee, Tail, Unknown}
-use Rattle.rules.specs.declared.Sums.{Sums}
-use Rattle.rules.specs.declared.Stage.{Stage}
+use Rattle.amounts.specs.declared.Sums.{Sums}
+use Rattle.order.specs.declared.Stage.{Stage}
 use Rattle.rules.specs.declared.Money.{Money}
 use Rattle.rules.specs.declared.State.{State}
-use Rattle.rules.specs.State.{noSums, zeroSections, zeroDelega, startState, Small, SumsBelow, MoneyBelow, StateBelow}
-use Rattle.rules.specs.Amounts.{finalOf}
-use Rattle.rules.specs.Step.{added, addedAt, nextStage, nextDeleghe, nextMoney, nextOf}
+use Rattle.rules.specs.State.{noSums, zeroSections, zeroDelega, startState}
+use Rattle.rules.specs.Bounds.{Small, SumsBelow, MoneyBelow, StateBelow}
+use Rattle.amounts.specs.Amounts.{finalOf}
+use Rattle.rules.specs.Step.{added, addedAt, nextDeleghe, nextMoney, nextOf}
+use Rattle.order.specs.Order.{nextStage}
 
 -- the sums of five sections grow by a line's amounts
 sums-on : (b : ℕ) (l : List Sums) (s : ℕ) (x : Sums) → SumsBelow b l → Small x → SumsBelow (b + 1_000_000_000_000_000) (addedAt l s x)

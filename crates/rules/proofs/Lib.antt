@@ -1,8 +1,3 @@
-pub mod Standing
-pub mod Spelling
-pub mod Lines
 pub mod Arrays
 pub mod Reading
 pub mod Growth
-pub mod Examples
-pub mod FirstFault

@@ -11,11 +11,11 @@ use Rattle.layout.specs.declared.Kind.the-variants.{Head, Taxpayer, Domicile, L
 use Rattle.layout.specs.Sections.{sectionAt}
 use Rattle.layout.specs.Kinds.{kindIn}
 use Rattle.layout.specs.Fields.{fieldsOf, valueOf, delegaNumber, amountAt}
-use Rattle.rules.specs.declared.Sums.{Sums}
+use Rattle.amounts.specs.declared.Sums.{Sums}
 use Rattle.rules.specs.declared.State.{State}
-use Rattle.rules.specs.declared.Outcome.{Outcome}
-use Rattle.rules.specs.declared.Outcome.the-variants.{Pass, Fault}
-use Rattle.rules.specs.Order.{first}
+use Rattle.amounts.specs.declared.Outcome.{Outcome}
+use Rattle.amounts.specs.declared.Outcome.the-variants.{Pass, Fault}
+use Rattle.amounts.specs.Outcomes.{first}
 use Rattle.rules.specs.Stored.{Value, storedOf, storedBalance, sectionSums, wrong}
 use Rattle.rules.specs.Checks.{numberFault, ownFault}
 use Rattle.rules.specs.Values.{valuesIn, balanceOn, balanceEnd, paymentOn, headOn, tailOn, amountsOn, valuesOn}

@@ -1,4 +1,4 @@
--- The checks 3 to 20 of one record, in the order of their numbers.
+-- Believed. The checks 3 to 20 of one record, in the order of their numbers.
 use Prim.Native.Nat.{ℕ, _+_}
 use mathlib.Core.Bool.{Bool, true, false, cond}
 use mathlib.Core.List.{List, [], _∷_}
@@ -15,13 +15,14 @@ use Rattle.layout.specs.declared.Kind.the-variants.{Head, Taxpayer, Domicile, L
 use Rattle.layout.specs.Sections.{sectionAt}
 use Rattle.layout.specs.Kinds.{typeIn, kindIn}
 use Rattle.layout.specs.Fields.{amountAt, delegaNumber, creationDate, supportName, fieldsOf, bytesOf, valueOf}
-use Rattle.rules.specs.declared.Sums.{Sums}
+use Rattle.amounts.specs.declared.Sums.{Sums}
 use Rattle.rules.specs.declared.State.{State}
-use Rattle.rules.specs.declared.Outcome.{Outcome}
-use Rattle.rules.specs.declared.Outcome.the-variants.{Pass, Fault}
-use Rattle.rules.specs.Order.{first, firstOf, standing}
-use Rattle.rules.specs.Amounts.{lineFault, dateRight}
-use Rattle.rules.specs.Names.{nameRight, sameBytes}
+use Rattle.amounts.specs.declared.Outcome.{Outcome}
+use Rattle.amounts.specs.declared.Outcome.the-variants.{Pass, Fault}
+use Rattle.amounts.specs.Outcomes.{first, firstOf}
+use Rattle.order.specs.Order.{standing}
+use Rattle.amounts.specs.Amounts.{lineFault, dateRight}
+use Rattle.amounts.specs.Names.{nameRight, sameBytes}
 use Rattle.rules.specs.Stored.{storedOf, wrong}
 
 -- 3, "a byte outside 32 to 126", at the "first such byte"

@@ -1,7 +1,5 @@
 pub mod State
-pub mod Order
-pub mod Amounts
-pub mod Names
+pub mod Bounds
 pub mod Stored
 pub mod Checks
 pub mod Step

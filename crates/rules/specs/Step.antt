@@ -1,4 +1,4 @@
--- The step over a record: it looks at the kind and, of a line, at the amounts.
+-- Believed. The step over a record: it looks at the kind and, of a line, at the amounts.
 use Prim.Native.Nat.{ℕ, _+_}
 use mathlib.Core.List.{List}
 use lib.ListN.{getD, set}
@@ -7,26 +7,13 @@ use Rattle.layout.specs.declared.Kind.the-variants.{Head, Taxpayer, Domicile, L
 use Rattle.layout.specs.Sections.{sectionAt}
 use Rattle.layout.specs.Kinds.{ofLine, ofTaxpayer, kindIn}
 use Rattle.layout.specs.Fields.{amountAt, valueOf}
-use Rattle.rules.specs.declared.Sums.{Sums}
+use Rattle.amounts.specs.declared.Sums.{Sums}
 use Rattle.rules.specs.declared.DelegaSums.{DelegaSums}
-use Rattle.rules.specs.declared.Stage.{Stage}
 use Rattle.rules.specs.declared.Money.{Money}
 use Rattle.rules.specs.declared.State.{State}
-use Rattle.rules.specs.State.{noSums, zeroDelega, stageAt, afterHead, afterTaxpayer, afterDomicile, afterLine, afterBalance, afterPayment, afterReceipt, afterAddressee, afterTail}
-use Rattle.rules.specs.Amounts.{finalOf}
-
--- the stage after a record
-abbrev pub nextStage : Stage → Kind → Stage
-nextStage p Head = stageAt afterHead 0 0
-nextStage p Taxpayer = stageAt afterTaxpayer 0 0
-nextStage p Domicile = stageAt afterDomicile 0 0
-nextStage p (Line s) = stageAt afterLine s (p .lines + 1)
-nextStage p (Balance s) = stageAt afterBalance s 0
-nextStage p Payment = stageAt afterPayment 0 0
-nextStage p Receipt = stageAt afterReceipt 0 0
-nextStage p Addressee = stageAt afterAddressee 0 0
-nextStage p Tail = stageAt afterTail 0 0
-nextStage p Unknown = p
+use Rattle.rules.specs.State.{noSums, zeroDelega}
+use Rattle.order.specs.Order.{nextStage}
+use Rattle.amounts.specs.Amounts.{finalOf}
 
 -- "The first delega is 1, each next one is one more"
 abbrev pub nextDeleghe : ℕ → Kind → ℕ

@@ -1,4 +1,4 @@
--- What a record stores of the lines before it: totals, signs, balances, final balances and the tail's values, as one list for each kind of record.
+-- Believed. What a record stores of the lines before it: totals, signs, balances, final balances and the tail's values, as one list for each kind of record.
 use Prim.Native.Nat.{ℕ, _+_}
 use mathlib.Core.Bool.{Bool, true, false, cond}
 use mathlib.Core.List.{List, [], _∷_}
@@ -9,12 +9,12 @@ use Rattle.layout.specs.declared.Kind.{Kind}
 use Rattle.layout.specs.declared.Kind.the-variants.{Head, Taxpayer, Domicile, Line, Balance, Payment, Receipt, Addressee, Tail, Unknown}
 use Rattle.layout.specs.Sections.{sectionAt}
 use Rattle.layout.specs.Fields.{amountAt, finalBalance, tailDeleghe, tailSum, tailRecords, valueOf}
-use Rattle.rules.specs.declared.Sums.{Sums}
+use Rattle.amounts.specs.declared.Sums.{Sums}
 use Rattle.rules.specs.declared.State.{State}
-use Rattle.rules.specs.declared.Outcome.{Outcome}
-use Rattle.rules.specs.declared.Outcome.the-variants.{Pass, Fault}
+use Rattle.amounts.specs.declared.Outcome.{Outcome}
+use Rattle.amounts.specs.declared.Outcome.the-variants.{Pass, Fault}
 use Rattle.rules.specs.State.{noSums}
-use Rattle.rules.specs.Amounts.{signOf, apart, finalOf}
+use Rattle.amounts.specs.Amounts.{signOf, apart, finalOf}
 
 -- a field whose contents follow from the lines: its refusal, where it stands, and the number or the character that it holds
 pub data Stored : Type 0 where

@@ -1,4 +1,4 @@
--- The checks 8 to 20 of a record whose numeric fields have been read: the same as in Checks, on the values in the order of the fields.
+-- Serves inner functions. The checks 8 to 20 of a record whose numeric fields have been read: the same as in Checks, on the values in the order of the fields.
 use Prim.Native.Nat.{ℕ, _+_, _-_}
 use mathlib.Core.Bool.{Bool, true, false, cond}
 use mathlib.Core.List.{List, [], _∷_, _++_, map}
@@ -9,12 +9,12 @@ use Rattle.layout.specs.declared.Kind.the-variants.{Head, Taxpayer, Domicile, L
 use Rattle.layout.specs.declared.Field.{Field}
 use Rattle.layout.specs.Sections.{sectionAt}
 use Rattle.layout.specs.Fields.{fieldsOf, bytesOf, valueOf, supportName}
-use Rattle.rules.specs.declared.Sums.{Sums}
+use Rattle.amounts.specs.declared.Sums.{Sums}
 use Rattle.rules.specs.declared.State.{State}
-use Rattle.rules.specs.declared.Outcome.{Outcome}
-use Rattle.rules.specs.declared.Outcome.the-variants.{Pass, Fault}
-use Rattle.rules.specs.Order.{first}
-use Rattle.rules.specs.Amounts.{signOf, apart, finalOf, lineFault}
+use Rattle.amounts.specs.declared.Outcome.{Outcome}
+use Rattle.amounts.specs.declared.Outcome.the-variants.{Pass, Fault}
+use Rattle.amounts.specs.Outcomes.{first}
+use Rattle.amounts.specs.Amounts.{signOf, apart, finalOf, lineFault}
 use Rattle.rules.specs.Stored.{sectionSums}
 use Rattle.rules.specs.Checks.{numberFault, negativeFault, headName, tailName, dateFault}
 

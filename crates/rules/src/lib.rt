@@ -1,28 +1,15 @@
 // The checks of one record, and the state that the records before it have led to.
-mod amounts;
-mod names;
-mod order;
 mod step;
 mod values;
 
 ghost use mathlib.Core.Path.{_≡_};
 ghost use Rattle.rules.specs.State.{zeroDelega, startState};
-pub use amounts::apart_of;
-pub use amounts::final_of;
-pub use amounts::line_right;
-pub use amounts::sign_of;
-pub use order::standing_of;
+use amounts::Sums;
+use order::Stage;
 pub use step::next_deleghe;
-pub use step::next_stage;
 pub use step::next_state;
 pub use values::section_sums;
 pub use values::values_fault;
-
-// A debit and a credit sum.
-pub struct Sums {
-    pub debit: u64,
-    pub credit: u64,
-}
 
 // The sums of the open delega: of each section, and of all its lines.
 pub struct DelegaSums {
@@ -48,35 +35,6 @@ impl DelegaSums {
     }
 }
 
-// The stage in the order of records: what the last record was, and for a line or a balance of which section; the open section's lines.
-pub struct Stage {
-    pub phase: u8,
-    pub section: usize,
-    pub lines: u64,
-}
-
-impl Stage {
-    pub const START: u8 = 0;
-
-    pub const HEAD: u8 = 1;
-
-    pub const TAXPAYER: u8 = 2;
-
-    pub const DOMICILE: u8 = 3;
-
-    pub const LINE: u8 = 4;
-
-    pub const BALANCE: u8 = 5;
-
-    pub const PAYMENT: u8 = 6;
-
-    pub const RECEIPT: u8 = 7;
-
-    pub const ADDRESSEE: u8 = 8;
-
-    pub const TAIL: u8 = 9;
-}
-
 // What the lines have come to: the open delega's sums, the flow's sums of each section, the sum of final balances.
 pub struct Money {
     pub delega: DelegaSums,
@@ -90,12 +48,6 @@ pub struct State {
     pub deleghe: u64,
     pub money: Money,
     pub seen: usize,
-}
-
-// The first failed check of a record, its number and position, or none.
-pub enum Outcome {
-    Pass,
-    Fault(u64, usize),
 }
 
 // Before the first record.

@@ -1,44 +1,18 @@
 // The state after a record.
 ghost use mathlib.Core.Path.{_≡_};
 ghost use Prim.Native.Nat.{_<_};
-ghost use Rattle.rules.specs.State.{noSums, stageAt, SumsBelow, MoneyBelow, Small, Room};
-ghost use Rattle.rules.specs.Step.{added, addedAt, nextStage, nextDeleghe, nextMoney, nextOf};
+ghost use Rattle.rules.specs.State.{noSums};
+ghost use Rattle.order.specs.Stages.{stageAt};
+ghost use Rattle.rules.specs.Bounds.{SumsBelow, MoneyBelow, Small, Room};
+ghost use Rattle.rules.specs.Step.{added, addedAt, nextDeleghe, nextMoney, nextOf};
+ghost use Rattle.order.specs.Order.{nextStage};
 use crate::DelegaSums;
 use crate::Money;
-use crate::Stage;
 use crate::State;
-use crate::Sums;
-use crate::amounts::final_of;
+use amounts::Sums;
+use amounts::final_of;
 use layout::Kind;
-
-// The stage after a record of kind k.
-pub fn next_stage(p: Stage, k: Kind) -> Stage
-    requires { ⌜ p .lines < 1000 ⌝ }
-    ensures { λ r. ⌜ r ≡ nextStage p k ⌝ }
-{
-    match k {
-        Kind::Head => staged(Stage::HEAD, 0, 0),
-        Kind::Taxpayer => staged(Stage::TAXPAYER, 0, 0),
-        Kind::Domicile => staged(Stage::DOMICILE, 0, 0),
-        Kind::Line(s) => staged(Stage::LINE, s, p.lines + 1),
-        Kind::Balance(s) => staged(Stage::BALANCE, s, 0),
-        Kind::Payment => staged(Stage::PAYMENT, 0, 0),
-        Kind::Receipt => staged(Stage::RECEIPT, 0, 0),
-        Kind::Addressee => staged(Stage::ADDRESSEE, 0, 0),
-        Kind::Tail => staged(Stage::TAIL, 0, 0),
-        Kind::Unknown => p,
-    }
-}
-
-fn staged(phase: u8, section: usize, lines: u64) -> Stage
-    ensures { λ r. ⌜ r ≡ stageAt phase section lines ⌝ }
-{
-    Stage {
-        phase,
-        section,
-        lines,
-    }
-}
+use order::Stage;
 
 // How many deleghe have been opened after a record of kind k.
 pub fn next_deleghe(d: u64, k: Kind) -> u64
@@ -144,7 +118,7 @@ pub fn next_state(st: State, k: Kind, x: Sums) -> State
 {
     let stage = st.stage;
     let money = st.money;
-    let p = next_stage(stage, k);
+    let p = order::next_stage(stage, k);
     let d = next_deleghe(st.deleghe, k);
     let m = next_money(money, k, x);
     State {

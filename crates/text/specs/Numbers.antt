@@ -1,4 +1,4 @@
--- Numbers in decimal digits: what a field of digits says, and how a number is written.
+-- Believed. Numbers in decimal digits: what a field of digits says, and how a number is written.
 use Prim.Native.Nat.{ℕ, zero, suc, _+_, _-_, _*_, _/_, _%_}
 use mathlib.Core.List.{List, [], _∷_, _++_}
 use mathlib.Core.Bool.{Bool, true, false, cond}

@@ -1,4 +1,4 @@
--- Bytes put at a place of a room, and numbers put there in digits.
+-- Believed. Bytes put at a place of a room, and numbers put there in digits.
 use Prim.Native.Nat.{ℕ, _+_, _^_}
 use mathlib.Core.List.{List, _++_}
 use mathlib.Core.Bool.{Bool, false, cond}

@@ -1,4 +1,4 @@
--- Serves theorems. The k-th step of a walk, by the promise of `step_on` alone, and what is shown of it.
+-- For theorems. The k-th step of a walk, by the promise of `step_on` alone, and what is shown of it.
 use Prim.Native.Nat.{ℕ, suc, _-_, _*_}
 use mathlib.Core.Path.{_≡_}
 use mathlib.Core.List.{List, []}

@@ -1,6 +1,6 @@
 -- `f24::delega_numbers` meets its contract: the five sections of a delega give ten numbers.
 use Rattle.f24.specs.Linked.{delegaNumbers}
-use Rattle.rules.specs.declared.Sums.{Sums}
+use Rattle.amounts.specs.declared.Sums.{Sums}
 use mathlib.Core.List.{List}
 use mathlib.Core.Path.{_≡_}
 use lib.ListN.{length}

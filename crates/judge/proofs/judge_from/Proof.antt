@@ -3,9 +3,9 @@ use Rattle.judge.specs.Flow.{refusedWith, judgedFrom, restOf, headNameOf
 use Rattle.rules.proofs.Growth.{money-room}
 use Rattle.rules.specs.Values.{valuesIn}
 use Rattle.rules.specs.Checks.{charFault, badFields, fault}
-use Rattle.rules.specs.Order.{standing}
+use Rattle.order.specs.Order.{standing}
 use Rattle.rules.specs.declared.State.{State}
-use Rattle.rules.specs.declared.Outcome.the-variants.{Pass, Fault}
+use Rattle.amounts.specs.declared.Outcome.the-variants.{Pass, Fault}
 use Rattle.layout.proofs.Within.{fields-within, fields-four, listed-at}
 use Rattle.layout.specs.Fields.{Within, nowhere, listed, fieldsOf, bytesOf, valueOf}
 use Rattle.layout.specs.Kinds.{typeIn}

@@ -7,7 +7,7 @@ use Rattle.text.specs.Placing.{putAt}
 use Rattle.text.specs.Numbers.{digitsOf}
 use Rattle.layout.specs.Fields.{finalBalance}
 use Rattle.rules.specs.Stored.{storedSection}
-use Rattle.rules.specs.declared.Sums.{Sums}
+use Rattle.amounts.specs.declared.Sums.{Sums}
 use Rattle.rebalance.specs.Rebalance.{putAll}
 use Rattle.rebalance.proofs.Fitting.{fits-first}
 use Rattle.rebalance.proofs.fill.Statement.{statement}

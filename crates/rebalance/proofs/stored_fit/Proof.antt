@@ -2,7 +2,7 @@
 use mathlib.Core.Path.{ap, _∙_}
 use borrow.Author.Needs.{needs}
 use Rattle.rules.specs.Stored.{storedSection}
-use Rattle.rules.specs.declared.Sums.{Sums}
+use Rattle.amounts.specs.declared.Sums.{Sums}
 use Rattle.rebalance.specs.Rebalance.{fitsAll}
 use Rattle.rebalance.proofs.Fitting.{fits-payment}
 use Rattle.rebalance.proofs.stored_fit.Statement.{statement}

@@ -1,4 +1,4 @@
-use Rattle.rules.specs.Amounts.{finalOf}
+use Rattle.amounts.specs.Amounts.{finalOf}
 use native.Mathlib.Omega.{arith}
 use borrow.Author.Needs.{needs}
 use Rattle.rules.proofs.step.payment_money.Statement.{statement}

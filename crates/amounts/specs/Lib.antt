@@ -1,0 +1,3 @@
+pub mod Outcomes
+pub mod Amounts
+pub mod Names
