@@ -19,8 +19,8 @@ use Rattle.rules.specs.Step.{nextDeleghe, next}
 use Rattle.judge.specs.declared.Verdict.the-variants.{Accepted}
 use Rattle.judge.specs.Flow.{recordsOf, headNameOf, judged}
 use Rattle.judge.specs.Plain.{stateAfter}
-use Rattle.judge.proofs.Accepted.{accepted-means-no-fault, sound-phase}
-use Rattle.delega.proofs.Moves.{Between, between-start, Standing, Each, each-standing, Move, Adds, Pays, Keeps, move-of, carried-number}
+use Rattle.judge.proofs.Accepted.{accepted-means-no-fault, sound-phase, carried-number}
+use Rattle.delega.proofs.Moves.{Between, between-start, Standing, Each, each-standing, Move, Adds, Pays, Keeps, move-of}
 use Rattle.delega.proofs.OwnRecords.{atClosing, Ends}
 use Rattle.delega.proofs.Held.{closing}
 use Rattle.find.specs.Line.{lineOf}

@@ -29,8 +29,7 @@ use Rattle.rules.specs.Checks.{carried, numberFault, fault}
 use Rattle.rules.specs.Step.{next}
 use Rattle.judge.specs.Flow.{recordsOf, headNameOf}
 use Rattle.judge.specs.Plain.{NoFault, Whole, stateAfter}
-use Rattle.judge.proofs.Accepted.{accepted-means-no-fault}
-use Rattle.delega.proofs.Moves.{carried-number}
+use Rattle.judge.proofs.Accepted.{accepted-means-no-fault, carried-number}
 use Rattle.rebalance.specs.Rebalance.{startOf, widthOf, putAll, emit, rebalanced, clear, Sized, flat}
 use Rattle.rebalance.proofs.Columns.{line-within, Storing, plain, balance, payment, tail, storing}
 use Rattle.rebalance.proofs.Emit.{kept-each, emit-same-stored, emit-plain, emit-outside, fault-kept, emit-own}
