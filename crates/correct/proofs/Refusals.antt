@@ -94,6 +94,9 @@ module _ (f : List ℕ) (d subtype n x y : ℕ) where
   refused-number (TurnsNegative t h) = omega arith
   refused-number (HasNoRoom t o) = omega arith
 
+  pub correction-number : {m r p : ℕ} → correctionOf f d subtype n x y ≡ Refused m r p → 1 ≤ m
+  correction-number e = refused-number (answered-exactly f d subtype n x y _ .0 e)
+
   -- So it has no refusal exactly then.
   pub made-exactly-when : (refusalMade (correctionOf f d subtype n x y) ≡ noRefusal) ↔ MayBeMade f d subtype n x y
   made-exactly-when = (λ e. go (correctionOf f d subtype n x y) refl e, λ m. ap refusalMade (answered-made .1 m))

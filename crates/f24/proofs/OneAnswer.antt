@@ -1,6 +1,32 @@
--- Every promise of the library is a set of equations for what is returned and for each run of lent memory, and an equation settles its value.
+-- The promise of each function of the library settles what is returned, and every number and byte that it is lent.
+use Prim.Native.Nat.{ℕ}
 use mathlib.Core.Path.{_≡_, sym, _∙_}
+use mathlib.Core.List.{List}
+use Rattle.f24.specs.Linked.{judgeCode, judgeRoom, delegaCode, delegaRoom, findCode, findRoom, correctCode, correctFlow, correctRoom}
 
--- "any two answers allowed by it are equal"
-pub one-answer : {A : Type 0} {x a b : A} → a ≡ x → b ≡ x → a ≡ b
-one-answer p q = p ∙ sym q
+-- `f24_judge`: the number returned, and the room
+pub one-judge : (flow room : List ℕ) (a b : ℕ) (x y : List ℕ) →
+    (a ≡ judgeCode flow room) × (x ≡ judgeRoom flow room) → (b ≡ judgeCode flow room) × (y ≡ judgeRoom flow room) → (a ≡ b) × (x ≡ y)
+one-judge flow room a b x y p q = (p .0 ∙ sym (q .0), p .1 ∙ sym (q .1))
+
+-- `f24_delega`
+pub one-delega : (flow : List ℕ) (d : ℕ) (room : List ℕ) (a b : ℕ) (x y : List ℕ) →
+    (a ≡ delegaCode flow d room) × (x ≡ delegaRoom flow d room) → (b ≡ delegaCode flow d room) × (y ≡ delegaRoom flow d room) → (a ≡ b) × (x ≡ y)
+one-delega flow d room a b x y p q = (p .0 ∙ sym (q .0), p .1 ∙ sym (q .1))
+
+-- `f24_find`
+pub one-find : (flow : List ℕ) (d subtype n : ℕ) (room : List ℕ) (a b : ℕ) (x y : List ℕ) →
+    (a ≡ findCode flow d subtype n room) × (x ≡ findRoom flow d subtype n room) → (b ≡ findCode flow d subtype n room) × (y ≡ findRoom flow d subtype n room) → (a ≡ b) × (x ≡ y)
+one-find flow d subtype n room a b x y p q = (p .0 ∙ sym (q .0), p .1 ∙ sym (q .1))
+
+-- `f24_correct`: the number returned, the flow, and the room
+module _ (flow : List ℕ) (d subtype n debit credit : ℕ) (room : List ℕ) where
+  -- what its contract allows
+  abbrev pub Allowed : ℕ → List ℕ → List ℕ → Type 0
+  Allowed code f x =
+      (code ≡ correctCode flow d subtype n debit credit room)
+      × (f ≡ correctFlow flow d subtype n debit credit room)
+      × (x ≡ correctRoom flow d subtype n debit credit room)
+
+  pub one-correct : (a b : ℕ) (f g x y : List ℕ) → Allowed a f x → Allowed b g y → (a ≡ b) × (f ≡ g) × (x ≡ y)
+  one-correct a b f g x y p q = (p .0 ∙ sym (q .0), p .1 ∙ sym (q .1), p .2 ∙ sym (q .2))

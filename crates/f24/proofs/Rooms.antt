@@ -3,14 +3,15 @@ use Prim.Native.Nat.{ℕ, _+_, _<_, _≤_}
 use mathlib.Core.Path.{_≡_, refl}
 use mathlib.Core.List.{List, [], _∷_}
 use native.Mathlib.Nat.{zero-add}
-use borrow.Author.Tests.{lt-ltb, le-ltb}
+use borrow.Author.Tests.{lt-ltb, le-ltb, ne-eqb}
 use native.Mathlib.Omega.{arith}
 use lib.ListN.{length, drop, getD, set}
 use Rattle.text.specs.Placing.{putAt}
 use Rattle.text.proofs.Writing.{part-on, part-end}
 use Rattle.amounts.specs.declared.Sums.{Sums}
 use Rattle.rules.specs.State.{noSums}
-use Rattle.f24.specs.Linked.{overlay, codeOr, roomOr, sumsNumbers}
+use Rattle.judge.specs.Refusal.{refusal, noRefusal}
+use Rattle.f24.specs.Linked.{overlay, codeOr, roomOr, sumsNumbers, refusalNumbers, answerNumbers}
 
 -- To overlay is to put at the start.
 pub overlay-put : (xs room : List ℕ) → overlay xs room ≡ putAt 0 xs room
@@ -50,6 +51,16 @@ module _ {n : ℕ} (room : List ℕ) where
   pub long-room : (xs : List ℕ) {l : List ℕ} → n ≤ length room → l ≡ overlay xs room → l ≡ roomOr n room xs
   unfolding roomOr
   long-room xs h p = rw (le-ltb (length room) n h) p
+
+  -- An answer that is no refusal is written as its own numbers.
+  pub answer-room : (xs : List ℕ) {l : List ℕ} → n ≤ length room → l ≡ overlay xs room → l ≡ roomOr n room (answerNumbers noRefusal xs)
+  unfolding answerNumbers
+  answer-room xs h p = long-room xs h p
+
+  -- A refusal, whose number is not 0, is written as its record and its position.
+  pub refused-room : (xs : List ℕ) (m r p : ℕ) {l : List ℕ} → 1 ≤ m → n ≤ length room → l ≡ overlay (refusalNumbers r p) room → l ≡ roomOr n room (answerNumbers (refusal m r p) xs)
+  unfolding answerNumbers
+  refused-room xs m r p z h e = long-room _ h (rw (ne-eqb m 0 (λ q. omega arith)) e)
 
 -- The sums of five sections are ten numbers.
 pub five-sums : (ss : List Sums) → length ss ≡ 5 → sumsNumbers ss

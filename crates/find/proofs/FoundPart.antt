@@ -43,9 +43,9 @@ found-part f d subtype n k e =
     record { counted = h .counted; within = w; record-is = record-number f k (h .counted); whole = record-whole f k (λ z. omega (arith, h .counted)) w }
 
 -- a refused answer is the judgement's or 21, and neither has the number 0
-refused-number : (f : List ℕ) (d subtype n m r p : ℕ) → foundIn f d subtype n ≡ Answer.Refused m r p → 1 ≤ m
+pub found-number : (f : List ℕ) (d subtype n m r p : ℕ) → foundIn f d subtype n ≡ Answer.Refused m r p → 1 ≤ m
 unfolding foundIn
-refused-number f d subtype n m r p e = by-verdict (judged f .verdict) refl e
+found-number f d subtype n m r p e = by-verdict (judged f .verdict) refl e
   where
     by-line : (b : Bool) → cond b (Answer.Refused 21 0 0) (Answer.At (lineOf f d subtype n)) ≡ Answer.Refused m r p → 1 ≤ m
     by-line true q = let x : 21 ≡ m = cc in omega arith
@@ -63,4 +63,4 @@ found-refusal f d subtype n = (λ e. by-answer (foundIn f d subtype n) refl e, �
     by-answer (Answer.At k) q e = (k, q)
     by-answer (Answer.Refused m r p) q e =
         let z : m ≡ 0 = ap (λ (x : Refusal). x .number) (sym (ap refusalFound q) ∙ e) in
-        absurd (omega (arith, refused-number f d subtype n m r p q))
+        absurd (omega (arith, found-number f d subtype n m r p q))

@@ -3,7 +3,8 @@
 use mathlib.Core.Path.{sym, _∙_}
 use borrow.Author.Tests.{lt-ltb, le-ltb}
 use Rattle.f24.specs.Linked.{correctCode, correctFlow, correctRoom}
-use Rattle.f24.proofs.Rooms.{overlay-none, short-code, short-room, long-code, long-room}
+use Rattle.f24.proofs.Rooms.{overlay-none, short-code, short-room, long-code, answer-room, refused-room}
+use Rattle.correct.proofs.Refusals.{correction-number}
 use borrow.Author.Needs.{needs}
 use Rattle.f24.proofs.f24_correct.Statement.{statement}
 use Rattle.f24.proofs.f24_correct.Tie as tie
@@ -33,7 +34,7 @@ returns-2 c =
     let e = sym (c .before .before .before .before .correct .ensures .0) ∙ c .enum-told .given .1 in
     let q = c .before .before .before .before in
     let h = q .before .before .if1 .left in
-    (long-code _ h (rw e), rw (le-ltb _ _ h) (q .correct .ensures .1), long-room _ _ h (rw e (sym (overlay-none _))))
+    (long-code _ h (rw e), rw (le-ltb _ _ h) (q .correct .ensures .1), rw e (answer-room _ _ h (sym (overlay-none _))))
 
 same-length-2 : tie.Need-same-length-2
 same-length-2 c = search needs
@@ -47,7 +48,7 @@ returns-3 c =
     let e = sym (c .before .before .before .before .before .before .before .before .before .correct .ensures .0) ∙ c .before .before .before .before .before .number .given .1 in
     let q = c .before .before .before .before .before .before .before .before .before in
     let h = q .before .before .if1 .left in
-    (long-code _ h (rw e), rw (le-ltb _ _ h) (q .correct .ensures .1), long-room _ _ h (rw e (c .before .before .put-refusal .ensures)))
+    (long-code _ h (rw e), rw (le-ltb _ _ h) (q .correct .ensures .1), rw e (refused-room _ _ _ _ _ (correction-number _ _ _ _ _ _ e) h (c .before .before .put-refusal .ensures)))
 
 pub f24-correct-spec : {M : Type 1} → statement M
 f24-correct-spec =

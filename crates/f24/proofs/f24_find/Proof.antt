@@ -1,7 +1,8 @@
 -- `f24::f24_find` meets its contract: a room that is too short stays as it came, and a longer one holds the refusal or the record's number.
 use mathlib.Core.Path.{sym, _∙_}
 use Rattle.f24.specs.Linked.{findCode, findRoom}
-use Rattle.f24.proofs.Rooms.{short-code, short-room, long-code, long-room}
+use Rattle.f24.proofs.Rooms.{short-code, short-room, long-code, answer-room, refused-room}
+use Rattle.find.proofs.FoundPart.{found-number}
 use borrow.Author.Needs.{needs}
 use Rattle.f24.proofs.f24_find.Statement.{statement}
 use Rattle.f24.proofs.f24_find.Tie as tie
@@ -37,7 +38,7 @@ returns-2 c =
     let q = c .before .before .before .before .before .before .before .before in
     let e = sym (q .find .ensures) ∙ c .before .before .before .before .before .before .k .given .1 in
     let h = q .before .if1 .left in
-    (long-code _ h (rw e), long-room _ _ h (rw e (c .before .before .put .ensures)))
+    (long-code _ h (rw e), rw e (answer-room _ _ h (c .before .before .put .ensures)))
 
 same-length-2 : tie.Need-same-length-2
 same-length-2 c = search needs
@@ -48,7 +49,7 @@ returns-3 c =
     let q = c .before .before .before .before .before .before .before in
     let e = sym (q .find .ensures) ∙ c .before .before .before .before .before .number .given .1 in
     let h = q .before .if1 .left in
-    (long-code _ h (rw e), long-room _ _ h (rw e (c .before .before .put-refusal .ensures)))
+    (long-code _ h (rw e), rw e (refused-room _ _ _ _ _ (found-number _ _ _ _ _ _ _ e) h (c .before .before .put-refusal .ensures)))
 
 pub f24-find-spec : {M : Type 1} → statement M
 f24-find-spec =

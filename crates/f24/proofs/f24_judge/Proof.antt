@@ -2,7 +2,8 @@
 use mathlib.Core.Path.{sym, ap, _∙_}
 use Rattle.judge.specs.declared.Judgement.{Judgement}
 use Rattle.f24.specs.Linked.{judgeCode, judgeRoom}
-use Rattle.f24.proofs.Rooms.{short-code, short-room, long-code, long-room}
+use Rattle.f24.proofs.Rooms.{short-code, short-room, long-code, answer-room, refused-room}
+use Rattle.judge.proofs.FirstFault.{judgement-number}
 use borrow.Author.Needs.{needs}
 use Rattle.f24.proofs.f24_judge.Statement.{statement}
 use Rattle.f24.proofs.f24_judge.Tie as tie
@@ -29,7 +30,7 @@ returns-2 c =
     let q = c .before .before .before .before .before .before .before in
     let e = ap (λ (j : Judgement). j .verdict) (sym (q .judge .ensures)) ∙ c .before .before .before .before .before .verdict .given .1 in
     let h = q .before .if1 .left in
-    (long-code _ h (rw e), long-room _ _ h (rw e (c .before .before .put-refusal .ensures)))
+    (long-code _ h (rw e), rw e (refused-room _ _ _ _ _ (judgement-number _ e .0) h (c .before .before .put-refusal .ensures)))
 
 enum-told : tie.Need-enum-told
 enum-told c = search needs
@@ -52,7 +53,7 @@ returns-3 c =
     let q = c .before .before .before .before .before .before .before .before in
     let e = ap (λ (j : Judgement). j .verdict) (sym (q .judge .ensures)) ∙ c .before .before .before .before .before .before .enum-told .given .1 in
     let h = q .before .if1 .left in
-    (long-code _ h (rw e), long-room _ _ h (rw e (rw (← q .judge .ensures, ← c .before .before .before .before .before .summary-numbers .ensures) (c .before .before .put .ensures))))
+    (long-code _ h (rw e), rw e (answer-room _ _ h (rw (← q .judge .ensures, ← c .before .before .before .before .before .summary-numbers .ensures) (c .before .before .put .ensures))))
 
 pub f24-judge-spec : {M : Type 1} → statement M
 f24-judge-spec =
