@@ -1,8 +1,11 @@
--- After a correction that is made, one back to the old amounts restores every byte.
-use Prim.Native.Nat.{ℕ, _+_, _%_}
+-- After a correction that is made the line has the new amounts, and one back to the old amounts restores every byte.
+use Prim.Native.Nat.{ℕ, _+_, _-_, _%_}
 use mathlib.Core.Path.{_≡_, refl, sym, ap, _∙_}
 use mathlib.Core.List.{List, [], _∷_, _++_, map, map-append}
-use lib.ListN.{length}
+use native.Mathlib.Omega.{arith}
+use lib.ListN.{length, getD}
+use lib.Seq.{getD-at}
+use Rattle.text.specs.Numbers.{amountOf}
 use Rattle.layout.specs.declared.Kind.{Kind}
 use Rattle.layout.specs.declared.Kind.the-variants.{Head, Taxpayer, Domicile, Line, Balance, Payment, Receipt, Addressee, Tail, Unknown}
 use Rattle.layout.specs.Kinds.{sectionKind, kindIn}
@@ -23,8 +26,8 @@ use Rattle.rebalance.proofs.Judged.{sized-records, accepted-untouched, accepted
 use Rattle.find.specs.Line.{lineFrom, lineOfKind, lineOf}
 use Rattle.correct.specs.declared.Correction.the-variants.{Made}
 use Rattle.correct.specs.Correction.{sectionOf, refreshed, correctionOf, correctedBytes}
-use Rattle.correct.specs.Effect.{withAmounts, debitOf, creditOf}
-use Rattle.correct.proofs.Amended.{amended, amended-again, line-amended}
+use Rattle.correct.specs.Effect.{withAmounts, recordNamed, debitOf, creditOf}
+use Rattle.correct.proofs.Amended.{amended, amended-again, line-amended, debit-amended, credit-amended}
 use Rattle.correct.proofs.Split.{Split, line-splits, parts, length-here, within-table, records-replaced}
 use Rattle.correct.proofs.Conditions.{Passed, made-passed, made-bytes}
 use Rattle.correct.proofs.StaysAccepted.{accepted-whole, amounts-whole, refreshed-accepted, refreshed-length}
@@ -167,6 +170,28 @@ module _ (f : List ℕ) (d subtype n x y : ℕ) (m : Passed f d subtype n x y) w
   back-flow : refreshed (withAmounts g d subtype n u v) ≡ f
   unfolding refreshed
   back-flow = ap flat (same-rebalanced back-alike startState) ∙ accepted-untouched f (m .accepted)
+
+  -- The record that is named there is the line with its new amounts.
+  named-there : recordNamed g d subtype n ≡ line
+  named-there =
+      ap (λ (j : ℕ). getD (recordsOf g) (j - 1) []) same-record
+      ∙ (ap (λ (l : List (List ℕ)). getD l (k - 1) []) split-g
+      ∙ getD-at (rebalanced startState (p .before)) line (rebalanced (next st line) (p .behind)) [] (k - 1) (omega (arith, p .counted, length-rebalanced startState (p .before))))
+
+  new-amounts : (debitOf g d subtype n ≡ x) × (creditOf g d subtype n ≡ y)
+  new-amounts =
+      let i = within-table f (w .even) p in
+      let l = length-here f (w .even) p in
+      rw named-there
+      (
+        ap amountOf (debit-amended s i (p .here) l x y (omega (arith, m .debit-fits))),
+        ap amountOf (credit-amended s i (p .here) l x y (omega (arith, m .credit-fits))),
+      )
+
+-- After a correction that is made the line that is named has the new amounts.
+pub corrected-amounts : (f : List ℕ) (d subtype n x y : ℕ) → correctionOf f d subtype n x y ≡ Made →
+    (debitOf (correctedBytes f d subtype n x y) d subtype n ≡ x) × (creditOf (correctedBytes f d subtype n x y) d subtype n ≡ y)
+corrected-amounts f d subtype n x y made = rw (made-bytes f d subtype n x y made) (new-amounts f d subtype n x y (made-passed f d subtype n x y .0 made))
 
 -- After a correction that is made, one back to the old amounts is made, and restores every byte.
 pub correct-back : (f : List ℕ) (d subtype n x y : ℕ) → correctionOf f d subtype n x y ≡ Made →
