@@ -75,7 +75,7 @@ fn place_after(answer: Answer, place: WalkPlace) -> WalkPlace
     }
 }
 
-// A step from a place.
+// A step from a place, for a caller that holds no walker.
 pub fn step_at(flow: &[u8], place: WalkPlace) -> Step
     ensures { λ r. ⌜ r ≡ stepAt (now (flow .entry)) place ⌝ }
 {
