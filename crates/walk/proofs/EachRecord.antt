@@ -25,6 +25,10 @@ use Rattle.walk.specs.Steps.{KthStep, first, next, ShowsRecord, ShowsNoM
 pub same-walker : {w : Walker} {f : RefT (List ℕ)} {p : WalkPlace} → w .flow ≡ f → w .place ≡ p → w ≡ record { flow = f; place = p }
 same-walker e h = λ i. record { flow = e i; place = h i }
 
+-- a step of one walker is a step of the other, where they are the same
+pub step-from : {v w : Walker} {s : Stepped} → v ≡ w → SteppedOn v s → SteppedOn w s
+step-from {s = s} e p = subst (λ (x : Walker). SteppedOn x s) e p
+
 -- the part of a step whose answer is known
 pub part-for : {w : Walker} {s : Stepped} {a : Answer} → SteppedOn w s → s .answer ≡ a → HandedBack (w .flow) a (s .part)
 part-for {w} {s} p e = subst (λ (x : Answer). HandedBack (w .flow) x (s .part)) e (p .part)
@@ -58,12 +62,12 @@ module _ (flow : RefT (List ℕ)) (e : judged (now flow) .verdict ≡ Accepted) 
           walker = walker-for p a ∙ same-walker refl moves-on;
         }
 
-  -- "The k-th step from the start hands back the k-th record as a part of the flow"
+  -- "The k-th step from the start hands back the k-th record as a part of the flow". The start is the walker that `new` promises
   pub walker-shows-records : {k : ℕ} {s : Stepped} → KthStep (walkerAt flow 0) k s → k ≤ length (recordsOf (now flow)) → ShowsRecord flow k s
   walker-shows-records (first p) h = step-shows 0 (omega (arith, length-chunks (length (now flow) / 120) (now flow))) p
-  walker-shows-records (next {k} {s} {t} q p) h =
+  walker-shows-records (next {k} q p) h =
       let i = walker-shows-records q (omega arith) .walker in
-      step-shows k (omega (arith, length-chunks (length (now flow) / 120) (now flow))) (subst (λ (w : Walker). SteppedOn w t) i p)
+      step-shows k (omega (arith, length-chunks (length (now flow) / 120) (now flow))) (step-from i p)
 
 -- At EF's end, or at a place beyond it
 module _ (w : Walker) (e : judged (now (w .flow)) .verdict ≡ Accepted) (h : length (recordsOf (now (w .flow))) ≤ w .place .shown) where
@@ -82,7 +86,7 @@ module _ (w : Walker) (e : judged (now (w .flow)) .verdict ≡ Accepted) (h : le
   -- "At EF's end, or at a place beyond it, it answers that there is no more, with an empty part, and the place stays", however many steps are taken
   pub walker-ends : {k : ℕ} {s : Stepped} → KthStep w k s → ShowsNoMore w s
   walker-ends (first p) = step-stays p
-  walker-ends (next {k} {s} {t} q p) = step-stays (subst (λ (v : Walker). SteppedOn v t) (walker-ends q .walker) p)
+  walker-ends (next q p) = step-stays (step-from (walker-ends q .walker) p)
 
 module _ (flow : RefT (List ℕ)) (e : judged (now flow) .verdict ≡ Accepted) where
   -- the walker that has shown every record
@@ -91,9 +95,9 @@ module _ (flow : RefT (List ℕ)) (e : judged (now flow) .verdict ≡ Accepted) 
 
   -- the same of a walk from the start, at each step after the one that shows the last record
   pub walker-ends-after-last : {k : ℕ} {s : Stepped} → KthStep (walkerAt flow 0) k s → length (recordsOf (now flow)) < k → ShowsNoMore walked s
-  walker-ends-after-last (first {s} p) h = step-stays walked e (omega arith) (subst (λ (w : Walker). SteppedOn w s) (ap (walkerAt flow) (omega arith)) p)
-  walker-ends-after-last (next {k} {s} {t} q p) h =
-      step-stays walked e (omega arith) (subst (λ (w : Walker). SteppedOn w t) (go (ltb (length (recordsOf (now flow))) k) refl (λ l. walker-ends-after-last q l .walker)) p)
+  walker-ends-after-last (first p) h = step-stays walked e (omega arith) (step-from (ap (walkerAt flow) (omega arith)) p)
+  walker-ends-after-last (next {k} {s} q p) h =
+      step-stays walked e (omega arith) (step-from (go (ltb (length (recordsOf (now flow))) k) refl (λ l. walker-ends-after-last q l .walker)) p)
     where
       go : (b : Bool) → ltb (length (recordsOf (now flow))) k ≡ b → (length (recordsOf (now flow)) < k → s .walker ≡ walked) → s .walker ≡ walked
       go true i ih = ih (ltb-true _ _ i)

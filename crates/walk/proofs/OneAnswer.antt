@@ -1,7 +1,7 @@
 -- Each promise of this crate settles what is handed back: numbers and places, and of a part its bytes and where it lies. Of two parts that are the same so,
 -- nothing that a program can see is different.
 use Prim.Native.Nat.{ℕ, zero, suc, _+_}
-use mathlib.Core.Path.{_≡_, refl, sym, _∙_}
+use mathlib.Core.Path.{_≡_, refl, sym, ap, _∙_}
 use mathlib.Core.List.{List}
 use denote.Ref.{RefT, now}
 use Rattle.walk.specs.declared.WalkPlace.{WalkPlace}
@@ -34,6 +34,13 @@ pub one-step-on : (w : Walker) (a b : Stepped) → SteppedOn w a → SteppedOn w
 one-step-on w a b x y =
     let e : a .answer ≡ b .answer = x .answer ∙ sym (y .answer) in
     (e, one-part (w .flow) (b .answer) (a .part) (b .part) (part-for x e) (y .part), walker-for x e ∙ sym (walker-for y refl))
+
+-- `step_at` and `step_on` agree
+pub one-walk : (w : Walker) (s : Stepped) → SteppedOn w s → stepAt (now (w .flow)) (w .place) ≡ record { answer = s .answer; next = s .walker .place }
+one-walk w s p =
+    let a : answerAt (now (w .flow)) (w .place) ≡ s .answer = sym (p .answer) in
+    let n : placeAfter (answerAt (now (w .flow)) (w .place)) (w .place) ≡ s .walker .place = ap (λ (x : Answer). placeAfter x (w .place)) a ∙ sym (p .place) in
+    λ i. record { answer = a i; next = n i }
 
 -- a step that keeps the promise is there from each walker
 some-step-on : (w : Walker) → (s : Stepped) × SteppedOn w s

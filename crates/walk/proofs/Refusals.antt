@@ -1,6 +1,6 @@
 -- On a refused flow each `step_on` hands back the flow's refusal with an empty part, and the walker stays.
 use Prim.Native.Nat.{ℕ}
-use mathlib.Core.Path.{_≡_, subst, sym, ap, _∙_}
+use mathlib.Core.Path.{_≡_, sym, ap, _∙_}
 use denote.Ref.{now}
 use Rattle.judge.specs.declared.Verdict.the-variants as Judged
 use Rattle.judge.specs.Refusal.{refusalOf}
@@ -10,7 +10,7 @@ use Rattle.walk.specs.declared.Walker.{Walker}
 use Rattle.walk.specs.declared.Stepped.{Stepped}
 use Rattle.walk.specs.Walk.{refusalIn, answerAt, SteppedOn}
 use Rattle.walk.specs.Steps.{KthStep, first, next, ShowsRefusal}
-use Rattle.walk.proofs.EachRecord.{part-for, walker-for}
+use Rattle.walk.proofs.EachRecord.{step-from, part-for, walker-for}
 
 module _ (n r q : ℕ) (w : Walker) (e : judged (now (w .flow)) .verdict ≡ Judged.Refused n r q) where
   refuses : answerAt (now (w .flow)) (w .place) ≡ Refused n r q
@@ -25,4 +25,4 @@ module _ (n r q : ℕ) (w : Walker) (e : judged (now (w .flow)) .verdict ≡ Jud
   -- "A refused step does the same with its refusal", however many steps are taken
   pub walker-refuses : {k : ℕ} {s : Stepped} → KthStep w k s → ShowsRefusal n r q w s
   walker-refuses (first p) = step-refuses p
-  walker-refuses (next {t = t} i p) = step-refuses (subst (λ (v : Walker). SteppedOn v t) (walker-refuses i .walker) p)
+  walker-refuses (next i p) = step-refuses (step-from (walker-refuses i .walker) p)

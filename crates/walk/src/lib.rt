@@ -75,7 +75,7 @@ fn place_after(answer: Answer, place: WalkPlace) -> WalkPlace
     }
 }
 
-// A step from a place.
+// A step from a place, for a caller that holds no walker.
 pub fn step_at(flow: &[u8], place: WalkPlace) -> Step
     ensures { λ r. ⌜ r ≡ stepAt (now (flow .entry)) place ⌝ }
 {
@@ -109,15 +109,14 @@ pub fn new<'a>(flow: &'a [u8]) -> Walker<'a>
 pub fn step_on<'a>(w: Walker<'a>) -> Stepped<'a>
     ensures { λ r. ⌜ SteppedOn (w .entry) r ⌝ }
 {
-    let answer = answer_at(w.flow, w.place);
-    let part = part_at(w.flow, answer);
-    let place = place_after(answer, w.place);
+    let flow = w.flow;
+    let place = w.place;
+    let answer = answer_at(flow, place);
+    let part = part_at(flow, answer);
+    let next = place_after(answer, place);
     Stepped {
         part,
         answer,
-        walker: Walker {
-            flow: w.flow,
-            place,
-        },
+        walker: Walker { flow, place: next },
     }
 }

@@ -6,7 +6,7 @@ use Rattle.report.proofs.judgement_text.Statement.{statement}
 use Rattle.report.proofs.judgement_text.Tie as tie
 
 returns : tie.Need-returns
-returns c = printed-none (c .if1 .taken)
+returns c = printed-none (omega arith)
 
 enum-told : tie.Need-enum-told
 enum-told c = search needs
@@ -26,7 +26,7 @@ same-length c = search needs
 returns-2 : tie.Need-returns-2
 returns-2 c =
     rw (accepted-text (c .before .before .before .before .before .before .before .before .before .args .j) (c .before .before .before .before .before .enum-told .given .1))
-    (printed-all (c .before .before .before .before .before .before .before .if1 .left) (omega arith) (c .before .before .put-accepted .ensures))
+    (printed-all (omega arith) (omega arith) (c .before .before .put-accepted .ensures))
 
 same-length-2 : tie.Need-same-length-2
 same-length-2 c = search needs
@@ -34,7 +34,7 @@ same-length-2 c = search needs
 returns-3 : tie.Need-returns-3
 returns-3 c =
     rw (refused-text (c .before .before .before .before .before .before .before .before .before .args .j) (c .before .before .before .before .before .verdict .given .1))
-    (printed-all (c .before .before .before .before .before .before .before .if1 .left) (omega arith) (c .before .before .put-refused .ensures))
+    (printed-all (omega arith) (omega arith) (c .before .before .put-refused .ensures))
 
 pub judgement-text-spec : {M : Type 1} → statement M
 judgement-text-spec =

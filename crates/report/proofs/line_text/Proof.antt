@@ -7,7 +7,7 @@ use Rattle.report.proofs.line_text.Statement.{statement}
 use Rattle.report.proofs.line_text.Tie as tie
 
 returns : tie.Need-returns
-returns c = printed-none (c .if1 .taken)
+returns c = printed-none (omega arith)
 
 slice-aggregate-put-word : tie.Need-slice-aggregate-put-word
 slice-aggregate-put-word c = search needs
@@ -24,7 +24,7 @@ same-length c = search needs
 returns-2 : tie.Need-returns-2
 unfolding lineText
 returns-2 c =
-    printed-all (c .before .before .before .before .before .before .before .before .before .if1 .left) (omega arith)
+    printed-all (omega arith) (omega arith)
     (append-on (c .before .before .before .before .before .before .put-word .ensures) (c .before .before .put-field .ensures))
 
 pub line-text-spec : {M : Type 1} → statement M

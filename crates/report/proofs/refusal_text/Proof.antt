@@ -6,7 +6,7 @@ use Rattle.report.proofs.refusal_text.Statement.{statement}
 use Rattle.report.proofs.refusal_text.Tie as tie
 
 returns : tie.Need-returns
-returns c = printed-none (c .if1 .taken)
+returns c = printed-none (omega arith)
 
 put-refused-requires : tie.Need-put-refused-requires
 put-refused-requires c κs = search needs
@@ -16,7 +16,7 @@ same-length c = search needs
 
 returns-2 : tie.Need-returns-2
 returns-2 c =
-    printed-all (c .before .before .before .before .if1 .left) (omega arith) (c .before .before .put-refused .ensures)
+    printed-all (omega arith) (omega arith) (c .before .before .put-refused .ensures)
 
 pub refusal-text-spec : {M : Type 1} → statement M
 refusal-text-spec = tie.close (tie.spec returns put-refused-requires same-length returns-2)

@@ -18,7 +18,7 @@ use ghost.Atoms.{Atoms, sem}
 use contract.Lifetimes.{Lfts}
 use contract.Monad.{Fun, fact}
 use contract.Running.{givenOf, tables, tablesOf}
-use types.Kit.{Given, ‵, raw, _⊛_, given, ⋆, some, later, _$_, _∵_, !, qed, by, move, drop, use0, use1, use2, split, join, learn, pick, fsplit, fjoin, suffices, frame, await, done}
+use types.Kit.{Given, Item, ‵, raw, _⊛_, given, ⋆, some, later, _$_, _∵_, !, qed, by, move, drop, use0, use1, use2, split, join, learn, pick, fsplit, fjoin, suffices, frame, await, done}
 use types.Part.{whole, sub, look-in, agg}
 use types.Run.{look, init, forget, stop, fld, from, load, of-opd, and-then, no-more, assigns, land, returns, enter, alloc1, alloc0, params1, pass1, pass0, free1, free0}
 use sound.WpLaws.{FmC, fmOf, WpFn-mono}
@@ -106,6 +106,9 @@ module _ {M : Type 1} (𝓤 : URA M) (H : Heap 𝓤) (A : Atoms 𝓤) (W : Given
   abbrev Post : Val → SProp 𝓤
   Post = walkOf 𝓤 H A on.ended stayed (on.clauses 𝓤 H A mem run) .post (((κ, tt), (q, tt), tt, (d, tt), (mach ∷ [], tt)), tt)
 
+  abbrev token : Item 𝓤
+  token = ‵ (flft κ q) ⊛ ‵ ftrue
+
   abbrev Own : Fml
   Own = B (κ, tt) .own d (mach ∷ [])
 
@@ -141,8 +144,8 @@ module _ {M : Type 1} (𝓤 : URA M) (H : Heap 𝓤) (A : Atoms 𝓤) (W : Given
   abbrev to-after : Answer → Val → PlaceAfter 𝓤 H A mem run .Ghost
   to-after a w = ((tt, tt, tt, (a, (d .place, tt)), (w ∷ [], (pv ∷ [], tt))), tt)
 
-  entry : ent 𝓤 (onEntry 𝓤 H A on.signature (κ, tt) (q, tt) (d, tt) (mach ∷ [], tt)) (⋆ 𝓤 H A ((‵ (flft κ q) ⊛ ‵ ftrue) ∷ ‵ Own ∷ []))
-  entry = qed W ((‵ (flft κ q) ⊛ ‵ ftrue) ∷ ‵ (owns (B (κ, tt) ∷ []) (d, tt) (mach ∷ [], tt)) ∷ []) ∵ move ! (1 ∷ []) $ fsplit ! $ move ! (1 ∷ []) $ drop ! $ move ! (1 ∷ 0 ∷ []) $ done !
+  entry : ent 𝓤 (onEntry 𝓤 H A on.signature (κ, tt) (q, tt) (d, tt) (mach ∷ [], tt)) (⋆ 𝓤 H A (token ∷ ‵ Own ∷ []))
+  entry = qed W (token ∷ ‵ (owns (B (κ, tt) ∷ []) (d, tt) (mach ∷ [], tt)) ∷ []) ∵ move ! (1 ∷ []) $ fsplit ! $ move ! (1 ∷ []) $ drop ! $ move ! (1 ∷ 0 ∷ []) $ done !
 
   -- what the walker owns gives what its fields own together, and is kept
   apart : ent 𝓤 (sem 𝓤 H A Own) (sep 𝓤 (sem 𝓤 H A (all-own (D .parts) L vd)) (sem 𝓤 H A Own))
@@ -157,20 +160,20 @@ module _ {M : Type 1} (𝓤 : URA M) (H : Heap 𝓤) (A : Atoms 𝓤) (W : Given
       use1 W (‵ (ownAt (D .parts) L 0 (d .flow)) ⊛ ‵ (rest (D .parts) L 0 vd)) (own-out 𝓤 H A W (D .parts) L 0 vd) $ split ! $ frame ! $ drop ! $ done !
 
   -- what the walker owns, beside the token, gives what `answer_at` asks, and is kept
-  asks-answer : ent 𝓤 (⋆ 𝓤 H A ((‵ (flft κ q) ⊛ ‵ ftrue) ∷ ‵ Own ∷ [])) (sep 𝓤 (AnswerAt 𝓤 H A mem run .pre to-answer) (sem 𝓤 H A Own))
+  asks-answer : ent 𝓤 (⋆ 𝓤 H A (token ∷ ‵ Own ∷ [])) (sep 𝓤 (AnswerAt 𝓤 H A mem run .pre to-answer) (sem 𝓤 H A Own))
   asks-answer =
-      qed W ((‵ (flft κ q) ⊛ ‵ ftrue) ∷ ‵ Own ∷ []) ∵ move ! (1 ∷ []) $ use1 W (‵ (all-own (D .parts) L vd) ⊛ ‵ Own) apart $ split ! $
+      qed W (token ∷ ‵ Own ∷ []) ∵ move ! (1 ∷ []) $ use1 W (‵ (all-own (D .parts) L vd) ⊛ ‵ Own) apart $ split ! $
       -- [what the fields own together; what the walker owns; the token]
       move ! (2 ∷ 0 ∷ []) $
-      use2 W (raw (AnswerAt 𝓤 H A mem run .pre to-answer)) (qed W ((‵ (flft κ q) ⊛ ‵ ftrue) ∷ ‵ (owns (Slice ∷ P.the-row ∷ []) (d .flow, (d .place, tt)) (v ∷ [], (pv ∷ [], tt))) ∷ []) ∵ join ! $ frame ! $ done !) $ frame ! $ done !
+      use2 W (raw (AnswerAt 𝓤 H A mem run .pre to-answer)) (qed W (token ∷ ‵ (owns (Slice ∷ P.the-row ∷ []) (d .flow, (d .place, tt)) (v ∷ [], (pv ∷ [], tt))) ∷ []) ∵ join ! $ frame ! $ done !) $ frame ! $ done !
 
   -- what the walker owns, beside the token and the facts of an answer, gives what `part_at` asks, and is kept
-  asks-part : (a : Answer) (w : Val) → Is E.the-row a (w ∷ []) → ent 𝓤 (⋆ 𝓤 H A ((‵ (flft κ q) ⊛ ‵ ftrue) ∷ ‵ Own ∷ [])) (sep 𝓤 (PartAt 𝓤 H A mem run .pre (to-part a w)) (sem 𝓤 H A Own))
+  asks-part : (a : Answer) (w : Val) → Is E.the-row a (w ∷ []) → ent 𝓤 (⋆ 𝓤 H A (token ∷ ‵ Own ∷ [])) (sep 𝓤 (PartAt 𝓤 H A mem run .pre (to-part a w)) (sem 𝓤 H A Own))
   asks-part a w is =
-      qed W ((‵ (flft κ q) ⊛ ‵ ftrue) ∷ ‵ Own ∷ []) ∵ move ! (1 ∷ []) $ use1 W (‵ (Slice .own (d .flow) (v ∷ [])) ⊛ ‵ Own) flow-out $ split ! $
+      qed W (token ∷ ‵ Own ∷ []) ∵ move ! (1 ∷ []) $ use1 W (‵ (Slice .own (d .flow) (v ∷ [])) ⊛ ‵ Own) flow-out $ split ! $
       -- [what the flow owns; what the walker owns; the token]
       nothing ! $ owned ! E.the-row (Is E.the-row) (EL.makes E.the-type E′.the-plain 𝓤 H A) a _ is $ fjoin ! $ move ! (1 ∷ 0 ∷ []) $ fjoin ! $ move ! (2 ∷ 0 ∷ []) $
-      use2 W (raw (PartAt 𝓤 H A mem run .pre (to-part a w))) (qed W ((‵ (flft κ q) ⊛ ‵ ftrue) ∷ ‵ (owns (Slice ∷ E.the-row ∷ []) (d .flow, (a, tt)) (v ∷ [], (w ∷ [], tt))) ∷ []) ∵ join ! $ frame ! $ done !) $ frame ! $ done !
+      use2 W (raw (PartAt 𝓤 H A mem run .pre (to-part a w))) (qed W (token ∷ ‵ (owns (Slice ∷ E.the-row ∷ []) (d .flow, (a, tt)) (v ∷ [], (w ∷ [], tt))) ∷ []) ∵ join ! $ frame ! $ done !) $ frame ! $ done !
 
   -- the facts of an answer and of the place give what `place_after` asks
   asks-after : (a : Answer) (w : Val) → Is E.the-row a (w ∷ []) → Is P.the-row (d .place) (pv ∷ []) → ent 𝓤 (emp 𝓤) (PlaceAfter 𝓤 H A mem run .pre (to-after a w))
@@ -215,9 +218,9 @@ module _ {M : Type 1} (𝓤 : URA M) (H : Heap 𝓤) (A : Atoms 𝓤) (W : Given
   is-made r u a w p x lies is moves = ((u ∷ [], (w ∷ [], (moved-mach x ∷ [], tt))), (refl, (lies, (is, (moves, tt)))))
 
   exits : (r : RefT (List ℕ)) (u : Val) (a : Answer) (w : Val) (p : WalkPlace) (x : Val) → Is E.the-row a (w ∷ []) → Is P.the-row p (x ∷ []) → SteppedOn d (made r a p)
-      → ent 𝓤 (⋆ 𝓤 H A (‵ (Slice .own r (u ∷ [])) ∷ (‵ (flft κ q) ⊛ ‵ ftrue) ∷ ‵ Own ∷ [])) (Post (made-mach u w x))
+      → ent 𝓤 (⋆ 𝓤 H A (‵ (Slice .own r (u ∷ [])) ∷ token ∷ ‵ Own ∷ [])) (Post (made-mach u w x))
   exits r u a w p x is at f =
-      qed W (‵ (Slice .own r (u ∷ [])) ∷ (‵ (flft κ q) ⊛ ‵ ftrue) ∷ ‵ Own ∷ []) ∵
+      qed W (‵ (Slice .own r (u ∷ [])) ∷ token ∷ ‵ Own ∷ []) ∵
       suffices ! _ (ends-at 𝓤 H A on.ended stayed (on.clauses 𝓤 H A mem run) W (((κ, tt), (q, tt), tt, (d, tt), (mach ∷ [], tt)), tt) (made-mach u w x) (made r a p) (tt, tt) (tt, tt)) $ says ! f $
       move ! (1 ∷ []) $ frame ! $
       -- [what the part owns; what the walker owns]: the walker moved on is made of the flow's own and the place's facts
@@ -233,46 +236,47 @@ module _ {M : Type 1} (𝓤 : URA M) (H : Heap 𝓤) (A : Atoms 𝓤) (W : Given
     walk : Is (B (κ, tt)) d (mach ∷ []) → ent 𝓤 (onEntry 𝓤 H A on.signature (κ, tt) (q, tt) (d, tt) (mach ∷ [], tt)) (WpFn 𝓤 H C Λ code.function (mach ∷ []) Post)
     walk known =
         qed W (raw (onEntry 𝓤 H A on.signature (κ, tt) (q, tt) (d, tt) (mach ∷ [], tt)) ∷ []) ∵ enter ! C Λ code.function (mach ∷ []) _ $
-        alloc1 ! (λ l₀. alloc1 ! (λ l₁. alloc1 ! (λ l₂. alloc1 ! (λ l₃. alloc1 ! (λ l₄. alloc1 ! (λ l₅. alloc1 ! (λ l₆. alloc1 ! (λ l₇. alloc1 ! (λ l₈. alloc1 ! (λ l₉. alloc1 ! (λ l₁₀. alloc0 ! $ params1 ! $ pass1 ! (init ! 18 refl wt) $ pass0 ! $
-        -- [_10; …; _9; …; _8; …; _7; …; _6; …; _5; …; _4; …; _3; …; _2; …; _1; …; room for _0; …; what is had at entry]
-        assigns ! (of-opd ! (load ! (from ! (fld ! refl (stop !))) (look-in ! 18 (sub ! 0 refl (whole !))))) (from ! (stop !)) (init ! 10 refl (tt, wt .1 .0)) $
-        assigns ! (of-opd ! (load ! (from ! (fld ! refl (stop !))) (look-in ! 18 (sub ! 1 refl (whole !))))) (from ! (stop !)) (init ! 8 refl (tt, wt .1 .1 .0)) $
-        move ! (22 ∷ []) $ use1 W ((‵ (flft κ q) ⊛ ‵ ftrue) ⊛ ‵ Own) entry $ split ! $ use2 W (raw (AnswerAt 𝓤 H A mem run .pre to-answer) ⊛ ‵ Own) asks-answer $ split ! $
+        alloc1 ! (λ l₀. alloc1 ! (λ l₁. alloc1 ! (λ l₂. alloc1 ! (λ l₃. alloc1 ! (λ l₄. alloc1 ! (λ l₅. alloc1 ! (λ l₆. alloc1 ! (λ l₇. alloc0 ! $ params1 ! $ pass1 ! (init ! 12 refl wt) $ pass0 ! $
+        -- [_7; …; _6; …; _5; …; _4; …; _3; …; _2; …; _1; …; room for _0; …; what is had at entry]
+        assigns ! (of-opd ! (load ! (from ! (fld ! refl (stop !))) (look-in ! 12 (sub ! 0 refl (whole !))))) (from ! (stop !)) (init ! 10 refl (tt, wt .1 .0)) $
+        assigns ! (of-opd ! (load ! (from ! (fld ! refl (stop !))) (look-in ! 12 (sub ! 1 refl (whole !))))) (from ! (stop !)) (init ! 8 refl (tt, wt .1 .1 .0)) $
+        -- `answer_at`
+        move ! (16 ∷ []) $ use1 W (token ⊛ ‵ Own) entry $ split ! $ use2 W (raw (AnswerAt 𝓤 H A mem run .pre to-answer) ⊛ ‵ Own) asks-answer $ split ! $
         calls-at ! fm (AnswerAt 𝓤 H A mem run) known-answer to-answer (and-then ! (load ! (from ! (stop !)) (look ! 12 refl)) (and-then ! (load ! (from ! (stop !)) (look ! 10 refl)) (no-more !))) (λ w.
-        use1 W (later (some (λ (a : Answer). ((‵ (flft κ q) ⊛ ‵ ftrue) ⊛ ‵ (E.the-row .own a (w ∷ []))) ⊛ raw (ensured 𝓤 H A answer.ended (answer.clauses 𝓤 H A mem run) (κ, tt) (d .flow, (d .place, tt)) tt a)))) (id⊢ 𝓤 _) $ await ! tt $ pick ! (λ a.
+        use1 W (later (some (λ (a : Answer). (token ⊛ ‵ (E.the-row .own a (w ∷ []))) ⊛ raw (ensured 𝓤 H A answer.ended (answer.clauses 𝓤 H A mem run) (κ, tt) (d .flow, (d .place, tt)) tt a)))) (id⊢ 𝓤 _) $ await ! tt $ pick ! (λ a.
         split ! $ move ! (1 ∷ []) $ use1 W (raw (fact 𝓤 (a ≡ answerAt (now (d .flow)) (d .place)))) (said-answer a) $ heard ! (a ≡ answerAt (now (d .flow)) (d .place)) (λ e. split ! $ move ! (1 ∷ []) $
-        -- [what the answer owns; the token; what the walker owns; _10; …]
+        -- [what the answer owns; the token; what the walker owns; _7; …]
         peeks ! E.the-row (Is E.the-row) (shows 𝓤 H A E.the-row) a (w ∷ []) (λ is.
-        land ! (from ! (stop !)) (init ! 19 refl (EL.lawful E.the-type E′.the-laws 𝓤 H A W tt .typed a _ is .0)) $ drop ! $
-        -- [the token; what the walker owns; _10; …]
-        assigns ! (of-opd ! (load ! (from ! (fld ! refl (stop !))) (look-in ! 20 (sub ! 0 refl (whole !))))) (from ! (stop !)) (init ! 8 refl (tt, wt .1 .0)) $
+        land ! (from ! (stop !)) (init ! 9 refl (EL.lawful E.the-type E′.the-laws 𝓤 H A W tt .typed a _ is .0)) $ drop ! $
+        -- `part_at`: [the token; what the walker owns; _7; …]
         use2 W (raw (PartAt 𝓤 H A mem run .pre (to-part a w)) ⊛ ‵ Own) (asks-part a w is) $ split ! $
-        calls-at ! fm (PartAt 𝓤 H A mem run) known-part (to-part a w) (and-then ! (load ! (from ! (stop !)) (look ! 8 refl)) (and-then ! (load ! (from ! (stop !)) (look ! 18 refl)) (no-more !))) (λ u.
-        use1 W (later (some (λ (r : RefT (List ℕ)). ((‵ (flft κ q) ⊛ ‵ ftrue) ⊛ ‵ (Slice .own r (u ∷ []))) ⊛ raw (ensured 𝓤 H A part.ended (part.clauses 𝓤 H A mem run) (κ, tt) (d .flow, (a, tt)) tt r)))) (id⊢ 𝓤 _) $ await ! tt $ pick ! (λ r.
+        calls-at ! fm (PartAt 𝓤 H A mem run) known-part (to-part a w) (and-then ! (load ! (from ! (stop !)) (look ! 12 refl)) (and-then ! (load ! (from ! (stop !)) (look ! 8 refl)) (no-more !))) (λ u.
+        use1 W (later (some (λ (r : RefT (List ℕ)). (token ⊛ ‵ (Slice .own r (u ∷ []))) ⊛ raw (ensured 𝓤 H A part.ended (part.clauses 𝓤 H A mem run) (κ, tt) (d .flow, (a, tt)) tt r)))) (id⊢ 𝓤 _) $ await ! tt $ pick ! (λ r.
         split ! $ move ! (1 ∷ []) $ use1 W (raw (fact 𝓤 (HandedBack (d .flow) a r))) (said-part a r) $ heard ! (HandedBack (d .flow) a r) (λ f. split ! $ move ! (1 ∷ []) $
-        -- [what the part owns; the token; what the walker owns; _10; …]
+        -- [what the part owns; the token; what the walker owns; _7; …]
         peeks ! Slice (Is Slice) (shows 𝓤 H A Slice) r (u ∷ []) (λ lies.
-        land ! (from ! (stop !)) (init ! 17 refl (shr-slice-lawful 𝓤 H A W erased κ u8 .typed r (u ∷ []) lies .0)) $
-        assigns ! (of-opd ! (load ! (from ! (fld ! refl (stop !))) (look-in ! 21 (sub ! 1 refl (whole !))))) (from ! (stop !)) (init ! 7 refl (tt, wt .1 .1 .0)) $
-        use0 W (raw (PlaceAfter 𝓤 H A mem run .pre (to-after a w))) (asks-after a w is (LL.owed D L d _ known .1 .0)) $
-        calls-at ! fm (PlaceAfter 𝓤 H A mem run) known-after (to-after a w) (and-then ! (load ! (from ! (stop !)) (look ! 20 refl)) (and-then ! (load ! (from ! (stop !)) (look ! 8 refl)) (no-more !))) (λ x.
+        land ! (from ! (stop !)) (init ! 7 refl (shr-slice-lawful 𝓤 H A W erased κ u8 .typed r (u ∷ []) lies .0)) $
+        -- `place_after`
+        use0 W (raw (PlaceAfter 𝓤 H A mem run .pre (to-after a w))) (asks-after a w is placed) $
+        calls-at ! fm (PlaceAfter 𝓤 H A mem run) known-after (to-after a w) (and-then ! (load ! (from ! (stop !)) (look ! 10 refl)) (and-then ! (load ! (from ! (stop !)) (look ! 12 refl)) (no-more !))) (λ x.
         use1 W (later (some (λ (p : WalkPlace). (‵ ftrue ⊛ ‵ (P.the-row .own p (x ∷ []))) ⊛ raw (ensured 𝓤 H A after.ended (after.clauses 𝓤 H A mem run) tt (a, (d .place, tt)) tt p)))) (id⊢ 𝓤 _) $ await ! tt $ pick ! (λ p.
         split ! $ move ! (1 ∷ []) $ use1 W (raw (fact 𝓤 (p ≡ placeAfter a (d .place)))) (said-after a p) $ heard ! (p ≡ placeAfter a (d .place)) (λ g. split ! $ move ! (1 ∷ []) $
-        -- [what the place owns; nothing; what the part owns; the token; what the walker owns; _10; …]
+        -- [what the place owns; nothing; what the part owns; the token; what the walker owns; _7; …]
         peeks ! P.the-row (Is P.the-row) (shows 𝓤 H A P.the-row) p (x ∷ []) (λ at.
-        land ! (from ! (stop !)) (init ! 17 refl (LL.lawful P.the-type P′.the-laws 𝓤 H A W .typed p _ at .0)) $ drop ! $ drop ! $
-        -- [what the part owns; the token; what the walker owns; _10; …]
-        assigns ! (of-opd ! (load ! (from ! (fld ! refl (stop !))) (look-in ! 21 (sub ! 0 refl (whole !))))) (from ! (stop !)) (init ! 5 refl (tt, wt .1 .0)) $
-        assigns ! (agg ! (and-then ! (load ! (from ! (stop !)) (look ! 5 refl)) (and-then ! (load ! (from ! (stop !)) (look ! 15 refl)) (no-more !)))) (from ! (stop !)) (init ! 3 refl (LL.lawful (T.the-type αᵉ) (T′.the-laws αᵉ) 𝓤 H A W .typed (moved p) _ (is-moved p x known at) .0)) $
-        assigns ! (agg ! (and-then ! (load ! (from ! (stop !)) (look ! 17 refl)) (and-then ! (load ! (from ! (stop !)) (look ! 19 refl)) (and-then ! (load ! (from ! (stop !)) (look ! 3 refl)) (no-more !))))) (from ! (stop !))
-        (init ! 23 refl (LL.lawful (R.the-type α) (R′.the-laws α) 𝓤 H A W .typed (made r a p) _ (is-made r u a w p x lies is (is-moved p x known at)) .0)) $
-        returns ! (look ! 23 refl) $ forget ! 3 refl $ forget ! 5 refl $ forget ! 7 refl $ forget ! 9 refl $ forget ! 11 refl $ forget ! 13 refl $ forget ! 15 refl $ forget ! 17 refl $ forget ! 19 refl $ forget ! 21 refl $ forget ! 23 refl $
-        move ! (23 ∷ 24 ∷ []) $ free1 ! $ move ! (21 ∷ 22 ∷ []) $ free1 ! $ move ! (19 ∷ 20 ∷ []) $ free1 ! $ move ! (17 ∷ 18 ∷ []) $ free1 ! $ move ! (15 ∷ 16 ∷ []) $ free1 ! $ move ! (13 ∷ 14 ∷ []) $ free1 ! $
-        move ! (11 ∷ 12 ∷ []) $ free1 ! $ move ! (9 ∷ 10 ∷ []) $ free1 ! $ move ! (7 ∷ 8 ∷ []) $ free1 ! $ move ! (5 ∷ 6 ∷ []) $ free1 ! $ move ! (3 ∷ 4 ∷ []) $ free1 ! $ free0 ! $
-        by ! (exits r u a w p x is at (record { answer = e; part = f; flow = refl; place = g })))))))))))))))))))))))))
+        land ! (from ! (stop !)) (init ! 7 refl (LL.lawful P.the-type P′.the-laws 𝓤 H A W .typed p _ at .0)) $ drop ! $ drop ! $
+        -- the walker moved on, and the result: [what the part owns; the token; what the walker owns; _7; …]
+        assigns ! (agg ! (and-then ! (load ! (from ! (stop !)) (look ! 13 refl)) (and-then ! (load ! (from ! (stop !)) (look ! 5 refl)) (no-more !)))) (from ! (stop !)) (init ! 3 refl (LL.lawful (T.the-type αᵉ) (T′.the-laws αᵉ) 𝓤 H A W .typed (moved p) _ (is-moved p x known at) .0)) $
+        assigns ! (agg ! (and-then ! (load ! (from ! (stop !)) (look ! 7 refl)) (and-then ! (load ! (from ! (stop !)) (look ! 9 refl)) (and-then ! (load ! (from ! (stop !)) (look ! 3 refl)) (no-more !))))) (from ! (stop !))
+        (init ! 17 refl (LL.lawful (R.the-type α) (R′.the-laws α) 𝓤 H A W .typed (made r a p) _ (is-made r u a w p x lies is (is-moved p x known at)) .0)) $
+        returns ! (look ! 17 refl) $ forget ! 3 refl $ forget ! 5 refl $ forget ! 7 refl $ forget ! 9 refl $ forget ! 11 refl $ forget ! 13 refl $ forget ! 15 refl $ forget ! 17 refl $
+        move ! (17 ∷ 18 ∷ []) $ free1 ! $ move ! (15 ∷ 16 ∷ []) $ free1 ! $ move ! (13 ∷ 14 ∷ []) $ free1 ! $ move ! (11 ∷ 12 ∷ []) $ free1 ! $ move ! (9 ∷ 10 ∷ []) $ free1 ! $ move ! (7 ∷ 8 ∷ []) $ free1 ! $ move ! (5 ∷ 6 ∷ []) $ free1 ! $ move ! (3 ∷ 4 ∷ []) $ free1 ! $ free0 ! $
+        by ! (exits r u a w p x is at (record { answer = e; part = f; flow = refl; place = g }))))))))))))))))))))))
       where
         wt : Holds (hasTy (T′.mir (named 0)) mach) × WT mach
         wt = LL.lawful D L 𝓤 H A W .typed d _ known .0
+
+        placed : Is P.the-row (d .place) (pv ∷ [])
+        placed = LL.owed D L d _ known .1 .0
 
 module _ {M : Type 1} (𝓤 : URA M) (H : Heap 𝓤) (A : Atoms 𝓤) (W : Given 𝓤 H A) (mem : Memory → SProp 𝓤) (run : Routine → Fun 𝓤) where
   on-walks : (C : Calls 𝓤 H) (Λ : Loops 𝓤 H) → FmC 𝓤 H (W .laws) C → Triple 𝓤 (C #walk·answer-at) (AnswerAt 𝓤 H A mem run) → Triple 𝓤 (C #walk·part-at) (PartAt 𝓤 H A mem run) → Triple 𝓤 (C #walk·place-after) (PlaceAfter 𝓤 H A mem run)
