@@ -182,8 +182,7 @@ module _ (f : List ℕ) (d subtype n x y : ℕ) (m : Passed f d subtype n x y) w
   new-amounts =
       let i = within-table f (w .even) p in
       let l = length-here f (w .even) p in
-      rw named-there
-      (
+      rw named-there (
         ap amountOf (debit-amended s i (p .here) l x y (omega (arith, m .debit-fits))),
         ap amountOf (credit-amended s i (p .here) l x y (omega (arith, m .credit-fits))),
       )

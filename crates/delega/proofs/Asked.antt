@@ -57,6 +57,7 @@ delega-number s d {n} {r} {p} e = by-verdict (judged s .verdict) refl e
     by-tests true b q = let k : 21 ≡ n = cc in omega arith
     by-tests false true q = let k : 21 ≡ n = cc in omega arith
     by-tests false false q = omega (arith, from-number d startState (recordsOf s) q)
+
     by-verdict : (v : Verdict) → judged s .verdict ≡ v →
         judgedFirst refusedAs v (cond (eqb d 0) noSuchDelega (cond (ltb (judged s .summary .deleghe) d) noSuchDelega (delegaFrom d startState (recordsOf s)))) .verdict ≡ Refused n r p → 1 ≤ n
     by-verdict Accepted h q = by-tests (eqb d 0) (ltb (judged s .summary .deleghe) d) q
