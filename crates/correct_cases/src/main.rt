@@ -37,56 +37,29 @@ fn make(flow: &mut [u8], expected: &[u8], call: Numbers) {
     }
 }
 
-// Reads a flow of n bytes and the expected bytes, and makes the call; false where they are not there.
-fn make_next(fd: i32, flow: &mut [u8], expected: &mut [u8], n: usize, call: Numbers) -> bool {
-    if flow.len() < n {
-        return false;
-    }
-    if expected.len() < n {
-        return false;
-    }
-    if !desk::read_next(fd, &mut *flow, n) {
-        return false;
-    }
-    if !desk::read_next(fd, &mut *expected, n) {
-        return false;
-    }
-    make(&mut flow[0..n], &expected[0..n], call);
-    true
-}
-
 // One case; false where there is none left.
 fn one_case(fd: i32) -> bool {
     let mut head = [0u8; 153];
-    if io::read_full(fd, &mut head) < 153 {
-        return false;
-    }
-    desk::print_name(&head[0..41]);
-    let n = desk::size_of(&head[146..152]);
-    let call = desk::numbers_of(head);
     let mut flow = [0u8; 65522];
     let mut expected = [0u8; 65522];
-    make_next(fd, &mut flow, &mut expected, n, call)
-}
-
-// Every case, of at most ten thousand.
-fn make_all(fd: i32) {
-    let mut left: usize = 10000;
-    while 0 < left {
-        if !one_case(fd) {
-            return;
-        }
-        left -= 1;
+    let got = desk::next_case(fd, &mut head, &mut flow);
+    if got < 0 {
+        return false;
     }
+    let n = io::count(got, &flow);
+    if !desk::read_next(fd, &mut expected, n) {
+        return false;
+    }
+    make(&mut flow[0..n], &expected[0..n], desk::numbers_of(head));
+    true
 }
 
 fn main() {
-    let path = b"calls";
-    let fd = os::open_read(path);
-    if fd < 0 {
-        os::fail(path);
-        return;
+    let fd = desk::open_cases(b"calls");
+    for _ in 0..desk::MOST_CASES {
+        if !one_case(fd) {
+            break;
+        }
     }
-    make_all(fd);
     libc::close(fd);
 }

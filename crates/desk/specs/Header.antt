@@ -1,7 +1,9 @@
 -- Serves inner functions. What the header of a run case says: how long its flow is, and the numbers of its call.
-use Prim.Native.Nat.{ℕ}
+use Prim.Native.Nat.{ℕ, _-_}
+use mathlib.Core.Bool.{cond}
 use mathlib.Core.List.{List}
-use lib.ListN.{take, drop}
+use lib.Dec.{ltb}
+use lib.ListN.{length, take, drop}
 use Rattle.text.specs.declared.Digits.{Digits}
 use Rattle.text.specs.declared.Digits.the-variants as Read
 use Rattle.text.specs.Numbers.{readNumber}
@@ -32,3 +34,7 @@ sizeRead Read.TooLong = 99999
 
 unfoldable pub sizeOf : List ℕ → ℕ
 sizeOf digits = sizeRead (readNumber digits)
+
+-- the length that a header says: in six digits before its line end; a header too short for them says none
+unfoldable pub lengthIn : List ℕ → ℕ
+lengthIn head = cond (ltb (length head) 7) 99999 (sizeOf (take 6 (drop (length head - 7) head)))

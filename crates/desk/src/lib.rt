@@ -1,4 +1,4 @@
-// What the desk's programs have in common: arguments, refusals, and one line for what went wrong.
+// What the desk's programs have in common: arguments, a flow read whole, answers printed, and one line for what went wrong.
 // What comes from or goes to a descriptor, and what the arguments are, is outside what a contract can say: a function that only prints or
 // asks promises that it is safe and ends. What can be said of an answer or of lent room is said.
 ghost use mathlib.Core.Path.{_≡_};
@@ -6,22 +6,30 @@ ghost use mathlib.Core.Bool.{false};
 ghost use Prim.Native.Nat.{_≤_};
 ghost use lib.ListN.{length};
 ghost use Rattle.args.specs.Decimal.{decimalOf};
-ghost use Rattle.desk.specs.Header.{orZero, numbersOf, sizeOf};
+ghost use Rattle.libc.specs.Io.{Moved};
+ghost use Rattle.desk.specs.Header.{orZero, numbersOf, sizeOf, lengthIn};
 use args::Argument;
 use find::Found;
 use judge::Judgement;
 use judge::Verdict;
 use libc::STDERR_FILENO;
+use libc::STDIN_FILENO;
 use libc::STDOUT_FILENO;
 use text::Digits;
 
-// One line on standard error that says what was wrong and how the program is used.
-pub fn misused(program: &[u8], what: &[u8], usage: &[u8]) {
-    io::write_all(STDERR_FILENO, program);
+// The start of a line on standard error: the command as a clerk types it.
+pub fn begin_line(command: &[u8]) {
+    io::write_all(STDERR_FILENO, b"./f24 ");
+    io::write_all(STDERR_FILENO, command);
     io::write_all(STDERR_FILENO, b": ");
+}
+
+// One line on standard error: what was wrong, and how the command is used.
+pub fn misused(command: &[u8], what: &[u8], usage: &[u8]) {
+    begin_line(command);
     io::write_all(STDERR_FILENO, what);
-    io::write_all(STDERR_FILENO, b"; usage: ");
-    io::write_all(STDERR_FILENO, program);
+    io::write_all(STDERR_FILENO, b"; usage: ./f24 ");
+    io::write_all(STDERR_FILENO, command);
     io::write_all(STDERR_FILENO, b" ");
     io::write_all(STDERR_FILENO, usage);
     io::write_all(STDERR_FILENO, b"\n");
@@ -34,10 +42,102 @@ pub fn number_at(i: usize) -> Argument {
     args::decimal(&word[..n])
 }
 
-// Whether reading from a descriptor fails. A read that failed fails again; at the end of a file one more read gives nothing.
-pub fn unreadable(fd: i32) -> bool {
-    let mut more = [0u8; 1];
-    libc::read(fd, &mut more) < 0
+// One line on standard error for an argument that is no number: its name, what a number is, and the word itself where it is short.
+pub fn no_number(command: &[u8], name: &[u8], i: usize) {
+    let mut word = [0u8; 40];
+    let n = os::arg(i, &mut word);
+    begin_line(command);
+    io::write_all(STDERR_FILENO, name);
+    io::write_all(
+        STDERR_FILENO,
+        b" must be a number in digits, at most 18446744073709551615",
+    );
+    if 0 < n {
+        io::write_all(STDERR_FILENO, b", and not ");
+        io::write_all(STDERR_FILENO, &word[..n]);
+    }
+    io::write_all(STDERR_FILENO, b"\n");
+}
+
+// Whether a word stands for standard input.
+fn is_dash(word: &[u8]) -> bool {
+    if word.len() == 1 {
+        return word[0] == b'-';
+    }
+    false
+}
+
+// One line on standard error for what could not be read, with the system's reason.
+pub fn unread(command: &[u8], word: &[u8]) {
+    begin_line(command);
+    io::write_all(STDERR_FILENO, b"cannot read ");
+    if is_dash(word) {
+        os::fail(b"standard input");
+    } else {
+        os::fail(word);
+    }
+}
+
+// Opens what a word names: a file, or standard input for -. Negative where it cannot be opened.
+fn opened(word: &[u8]) -> i32 {
+    if is_dash(word) {
+        return STDIN_FILENO;
+    }
+    os::open_read(word)
+}
+
+// Reads to the end, or until the room is full, and answers how many bytes it put there; -1 where a read fails. Nothing is read after an end, so that a
+// clerk who types a flow ends it once.
+pub fn read_to_end(fd: i32, room: &mut [u8]) -> isize
+    ensures { λ r. ⌜ Moved (length (now (room .entry))) r ⌝ }
+{
+    let mut done: usize = 0;
+    while done < room.len() {
+        let got = libc::read(fd, &mut room[done..]);
+        if got < 0 {
+            return -1;
+        }
+        let more = io::count(got, &room[done..]);
+        if more == 0 {
+            return done as isize;
+        }
+        done += more;
+    }
+    done as isize
+}
+
+// Reads what a word names. Negative, with one line on standard error, where it cannot be read. The line comes before the close, which might set another reason.
+fn read_named(command: &[u8], word: &[u8], room: &mut [u8]) -> isize
+    ensures { λ r. ⌜ Moved (length (now (room .entry))) r ⌝ }
+{
+    let fd = opened(word);
+    if fd < 0 {
+        unread(command, word);
+        return -1;
+    }
+    let got = read_to_end(fd, room);
+    if got < 0 {
+        unread(command, word);
+    }
+    libc::close(fd);
+    got
+}
+
+// Reads the flow that the i-th argument names; a word that is missing is standard input. Negative, with one line on standard error, where it cannot be read.
+pub fn read_flow(command: &[u8], i: usize, room: &mut [u8]) -> isize
+    ensures { λ r. ⌜ Moved (length (now (room .entry))) r ⌝ }
+{
+    let mut word = io::buffer();
+    let n = os::arg(i, &mut word);
+    let why = os::errno();
+    if why == libc::EINVAL {
+        return read_named(command, b"-", room);
+    }
+    if why != 0 {
+        unread(command, b"FILE");
+        return -1;
+    }
+    read_named(command, &word[..n], room)
 }
 
 // A judgement, as document 01 has it printed.
@@ -67,7 +167,7 @@ fn name_length(head: &[u8]) -> usize
 }
 
 // Prints the name of a run case, which stands at the start of its header.
-pub fn print_name(head: &[u8]) {
+fn print_name(head: &[u8]) {
     let n = name_length(head);
     io::write_all(STDOUT_FILENO, &head[0..n]);
     io::write_all(STDOUT_FILENO, b"\n");
@@ -144,7 +244,7 @@ pub fn numbers_of(head: [u8; 153]) -> Numbers
 }
 
 // How many bytes the flow of a run case has; more than any room holds where the digits are none.
-pub fn size_of(digits: &[u8]) -> usize
+fn size_of(digits: &[u8]) -> usize
     ensures { λ r. ⌜ r ≡ sizeOf (now (digits .entry)) ⌝ }
 {
     match text::number(digits) {
@@ -163,4 +263,46 @@ pub fn read_next(fd: i32, room: &mut [u8], n: usize) -> bool
         return false;
     }
     io::read_full(fd, &mut room[0..n + 1]) == n + 1
+}
+
+// No file of run cases has more.
+pub const MOST_CASES: usize = 10000;
+
+// Opens a file of run cases. Where it cannot be opened, one line on standard error says so, and no case can be read from what is answered.
+pub fn open_cases(path: &[u8]) -> i32 {
+    let fd = os::open_read(path);
+    if fd < 0 {
+        os::fail(path);
+    }
+    fd
+}
+
+// The length that stands in the last six digits of a header, before its line end; more than any room holds where the header is too short for one.
+fn length_in(head: &[u8]) -> usize
+    ensures { λ r. ⌜ r ≡ lengthIn (now (head .entry)) ⌝ }
+{
+    if head.len() < 7 {
+        return 99999;
+    }
+    let from = head.len() - 7;
+    size_of(&head[from..from + 6])
+}
+
+// The next run case of a file: its header is put in `head`, its name is printed, and its flow is put in `room`. Answers how many bytes the flow has; -1 where
+// there is no further case.
+pub fn next_case(fd: i32, head: &mut [u8], room: &mut [u8]) -> isize
+    ensures { λ r. ⌜ Moved (length (now (room .entry))) r ⌝ }
+{
+    if io::read_full(fd, &mut *head) < head.len() {
+        return -1;
+    }
+    print_name(head);
+    let n = length_in(head);
+    if room.len() <= n {
+        return -1;
+    }
+    if !read_next(fd, &mut *room, n) {
+        return -1;
+    }
+    n as isize
 }

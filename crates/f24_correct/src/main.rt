@@ -24,19 +24,18 @@ struct Access {
     mode: u32,
 }
 
-fn misused(what: &[u8]) {
-    desk::misused(
-        b"f24_correct",
-        what,
-        b"FILE DELEGA SUBTYPE PLACE DEBIT CREDIT (amounts in cents)",
-    );
+// One line on standard error for what is wrong with the named file itself.
+fn unsuited(path: &[u8], what: &[u8]) {
+    desk::begin_line(b"correct");
+    io::write_all(STDERR_FILENO, path);
+    io::write_all(STDERR_FILENO, what);
 }
 
-// One line on standard error where the corrected flow could not take the file's place.
-fn unsaved(what: &[u8]) {
-    io::write_all(STDERR_FILENO, b"f24_correct: ");
-    io::write_all(STDERR_FILENO, what);
-    io::write_all(STDERR_FILENO, b"; FILE is as it was\n");
+// One line on standard error where the corrected flow could not take the file's place, with the system's reason.
+fn unsaved(path: &[u8], what: &[u8]) {
+    desk::begin_line(b"correct");
+    io::write_all(STDERR_FILENO, path);
+    os::fail(what);
 }
 
 // What is known of no file.
@@ -71,46 +70,64 @@ fn status_of(fd: i32) -> stat {
     known
 }
 
-// Gives a new file to those who had the old one. The system may keep the owner from being changed; then the group at least is.
-fn granted(fd: i32, access: Access) -> bool {
-    if libc::fchown(fd, access.owner, access.group) < 0 {
-        libc::fchown(fd, u32::MAX, access.group);
+// Gives a new file to those who had the old one, and answers whether it could. The system may keep the owner from being changed; then the group at least is.
+fn given_back(fd: i32, owner: u32, group: u32) -> bool {
+    if libc::fchown(fd, owner, group) == 0 {
+        return true;
     }
-    libc::fchmod(fd, access.mode) == 0
+    libc::fchown(fd, u32::MAX, group);
+    false
 }
 
-// Writes a flow to a new file, and waits until the device has it.
-fn written(fd: i32, flow: &[u8]) -> bool {
+// Gives a new file the old one's mode and the flow, and waits until the device has it.
+fn filled(fd: i32, mode: u32, flow: &[u8]) -> bool {
+    if libc::fchmod(fd, mode) < 0 {
+        return false;
+    }
     if !io::write_all(fd, flow) {
         return false;
     }
     libc::fsync(fd) == 0
 }
 
-// Makes a new file as the old one was, with the flow in it, and closes it.
-fn filled(fd: i32, access: Access, flow: &[u8]) -> bool {
-    let right = granted(fd, access);
-    let whole = written(fd, flow);
-    if libc::close(fd) < 0 {
+// Fills a new file and closes it. The line for a failure comes first, since closing might set another reason.
+fn written(fd: i32, old: &[u8], mode: u32, flow: &[u8]) -> bool {
+    let whole = filled(fd, mode, flow);
+    if !whole {
+        unsaved(old, b" is as it was, since the new file cannot be written");
+    }
+    libc::close(fd);
+    whole
+}
+
+// Has a new file take the old one's name.
+fn renamed(new: &[u8], old: &[u8]) -> bool {
+    if os::rename(new, old) < 0 {
+        unsaved(
+            old,
+            b" is as it was, since the new file cannot take its place",
+        );
         return false;
     }
-    if right {
-        return whole;
-    }
-    false
+    true
 }
 
 // Gives a new file the flow and then the old file's name. Where either fails, the new file is removed.
 fn replaced(fd: i32, new: &[u8], old: &[u8], access: Access, flow: &[u8]) -> bool {
-    if !filled(fd, access, flow) {
+    let kept = given_back(fd, access.owner, access.group);
+    if !written(fd, old, access.mode, flow) {
         os::unlink(new);
-        unsaved(b"the corrected flow cannot be written");
         return false;
     }
-    if os::rename(new, old) < 0 {
+    if !renamed(new, old) {
         os::unlink(new);
-        unsaved(b"the corrected flow cannot take the place of FILE");
         return false;
+    }
+    if !kept {
+        unsuited(
+            old,
+            b" is corrected, and is now yours: its owner or group could not be kept\n",
+        );
     }
     true
 }
@@ -135,7 +152,10 @@ fn put_name(room: &mut [u8], path: &[u8]) -> usize
 fn saved_as(new: &mut [u8], old: &[u8], access: Access, flow: &[u8]) -> bool {
     let fd = os::create_temp(&mut *new);
     if fd < 0 {
-        unsaved(b"no file can be made in the folder of FILE");
+        unsaved(
+            old,
+            b" is as it was, since no new file can be made beside it",
+        );
         return false;
     }
     replaced(fd, new, old, access, flow)
@@ -170,11 +190,12 @@ fn correct_flow(path: &[u8], access: Access, flow: &mut [u8], call: Call) {
 // Corrects what a descriptor gives, up to one byte more than the longest flow, so that a longer file is refused by the judge.
 fn correct_bytes(fd: i32, path: &[u8], access: Access, call: Call) {
     let mut room = [0u8; Flow::MOST_BYTES + 1];
-    let n = io::read_full(fd, &mut room);
-    if desk::unreadable(fd) {
-        misused(b"FILE cannot be read");
+    let got = desk::read_to_end(fd, &mut room);
+    if got < 0 {
+        desk::unread(b"correct", path);
         return;
     }
+    let n = io::count(got, &room);
     correct_flow(path, access, &mut room[..n], call);
 }
 
@@ -182,7 +203,7 @@ fn correct_bytes(fd: i32, path: &[u8], access: Access, call: Call) {
 fn correct_open(fd: i32, path: &[u8], call: Call) {
     let status = status_of(fd);
     if status.st_mode & libc::S_IFMT != libc::S_IFREG {
-        misused(b"FILE is not a regular file");
+        unsuited(path, b" is not a regular file\n");
         return;
     }
     let access = Access {
@@ -201,32 +222,49 @@ fn is_link(path: [u8; 4096]) -> bool {
     libc::readlink(&ended, &mut target) >= 0
 }
 
-// Corrects the flow in the file that the first argument names. It is opened for writing too, so that a file that may not be written
-// is not replaced.
+// Corrects the flow in a file, which is opened for writing too, so that a file that may not be written is not replaced. A descriptor below 3 is that of an input or
+// an output that was closed: what is printed would go into the file.
+fn correct_at(room: [u8; 4096], path: &[u8], call: Call) {
+    let fd = os::open_update(path);
+    if fd < 0 {
+        unsaved(path, b" cannot be changed");
+        return;
+    }
+    if fd < 3 {
+        libc::close(fd);
+        unsuited(
+            path,
+            b" is as it was: standard input, output and error must be open\n",
+        );
+        return;
+    }
+    if is_link(room) {
+        unsuited(path, b" is a link: name the file itself\n");
+    } else {
+        correct_open(fd, path, call);
+    }
+    libc::close(fd);
+}
+
+// Corrects the flow in the file that the first argument names.
 fn correct_file(call: Call) {
     let mut path = io::buffer();
     let n = os::arg(1, &mut path);
-    let fd = os::open_update(&path[..n]);
-    if fd < 0 {
-        misused(b"FILE cannot be opened for reading and writing");
+    if os::errno() != 0 {
+        unsaved(b"FILE", b" cannot be changed");
         return;
     }
-    if is_link(path) {
-        misused(b"FILE is a link and not the file itself");
-    } else {
-        correct_open(fd, &path[..n], call);
-    }
-    libc::close(fd);
+    correct_at(path, &path[..n], call);
 }
 
 // Reads the new amounts, and corrects the named line.
 fn correct_line(delega: u64, subtype: u64, nth: u64) {
     let Argument::Number(debit) = desk::number_at(5) else {
-        misused(b"DEBIT is not a number of 1 to 20 digits below 2^64");
+        desk::no_number(b"correct", b"DEBIT", 5);
         return;
     };
     let Argument::Number(credit) = desk::number_at(6) else {
-        misused(b"CREDIT is not a number of 1 to 20 digits below 2^64");
+        desk::no_number(b"correct", b"CREDIT", 6);
         return;
     };
     correct_file(Call {
@@ -240,19 +278,23 @@ fn correct_line(delega: u64, subtype: u64, nth: u64) {
 
 fn main() {
     if os::arg_count() != 7 {
-        misused(b"six arguments are needed");
+        desk::misused(
+            b"correct",
+            b"six arguments are needed",
+            b"FILE DELEGA SUBTYPE PLACE DEBIT CREDIT",
+        );
         return;
     }
     let Argument::Number(delega) = desk::number_at(2) else {
-        misused(b"DELEGA is not a number of 1 to 20 digits below 2^64");
+        desk::no_number(b"correct", b"DELEGA", 2);
         return;
     };
     let Argument::Number(subtype) = desk::number_at(3) else {
-        misused(b"SUBTYPE is not a number of 1 to 20 digits below 2^64");
+        desk::no_number(b"correct", b"SUBTYPE", 3);
         return;
     };
     let Argument::Number(nth) = desk::number_at(4) else {
-        misused(b"PLACE is not a number of 1 to 20 digits below 2^64");
+        desk::no_number(b"correct", b"PLACE", 4);
         return;
     };
     correct_line(delega, subtype, nth);

@@ -2,37 +2,21 @@
 use args::Argument;
 use layout::Flow;
 
-fn misused(what: &[u8]) {
-    desk::misused(b"f24_delega", what, b"FILE NUMBER");
-}
-
-// The room holds one byte more than the longest flow, so that a longer file is refused by the judge.
-fn answer_from(fd: i32, number: u64) {
-    let mut room = [0u8; Flow::MOST_BYTES + 1];
-    let n = io::read_full(fd, &mut room);
-    if desk::unreadable(fd) {
-        misused(b"FILE cannot be read");
-        return;
-    }
-    desk::print_delega(&room[..n], number);
-}
-
+// The room holds one byte more than the longest flow, so that a longer one is refused by the judge.
 fn main() {
     if os::arg_count() != 3 {
-        misused(b"two arguments are needed");
+        desk::misused(b"delega", b"two arguments are needed", b"FILE NUMBER");
         return;
     }
     let Argument::Number(number) = desk::number_at(2) else {
-        misused(b"NUMBER is not a number of 1 to 20 digits below 2^64");
+        desk::no_number(b"delega", b"NUMBER", 2);
         return;
     };
-    let mut path = io::buffer();
-    let n = os::arg(1, &mut path);
-    let fd = os::open_read(&path[..n]);
-    if fd < 0 {
-        misused(b"FILE cannot be opened");
+    let mut room = [0u8; Flow::MOST_BYTES + 1];
+    let got = desk::read_flow(b"delega", 1, &mut room);
+    if got < 0 {
         return;
     }
-    answer_from(fd, number);
-    libc::close(fd);
+    let n = io::count(got, &room);
+    desk::print_delega(&room[..n], number);
 }

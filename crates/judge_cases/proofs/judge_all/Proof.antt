@@ -1,25 +1,27 @@
-use borrow.Author.Needs.{needs}
+-- `judge_cases::judge_all` is safe and ends: its counter rises to ten thousand.
+use Prim.Native.Nat.{_-_}
 use native.Mathlib.Omega.{arith}
+use borrow.Author.Needs.{needs}
 use Rattle.judge_cases.proofs.judge_all.Statement.{statement}
 use Rattle.judge_cases.proofs.judge_all.Tie as tie
 
 abbrev Inv-loop : tie.InvT-loop
-Inv-loop fd left₀ left = Unit {0}
+Inv-loop path fd counter₀ counter = Unit {0}
 
 abbrev μ-loop : tie.MeasureT-loop
-μ-loop fd left₀ left = left
+μ-loop path fd counter₀ counter = 10000 - counter
+
+open-cases-requires : tie.Need-open-cases-requires Inv-loop μ-loop
+open-cases-requires c κs = tt
 
 loop-holds : tie.Need-loop-holds Inv-loop μ-loop
 loop-holds c = tt
 
 one-case-requires : tie.Need-one-case-requires Inv-loop μ-loop
-one-case-requires c κs = search needs
+one-case-requires c κs = tt
 
-returns : tie.Need-returns Inv-loop μ-loop
-returns c = search needs
-
-sub-left : tie.Need-sub-left Inv-loop μ-loop
-sub-left c = search needs
+add-counter : tie.Need-add-counter Inv-loop μ-loop
+add-counter c = search needs
 
 loop-less : tie.Need-loop-less Inv-loop μ-loop
 loop-less c = omega arith
@@ -27,8 +29,11 @@ loop-less c = omega arith
 loop-again : tie.Need-loop-again Inv-loop μ-loop
 loop-again c = tt
 
-returns-2 : tie.Need-returns-2 Inv-loop μ-loop
-returns-2 c = search needs
+close-requires : tie.Need-close-requires Inv-loop μ-loop
+close-requires c κs = tt
+
+returns : tie.Need-returns Inv-loop μ-loop
+returns c = tt
 
 pub judge-all-spec : {M : Type 1} → statement M
 judge-all-spec =
@@ -36,10 +41,11 @@ judge-all-spec =
     (tie.spec
     Inv-loop
     μ-loop
+    open-cases-requires
     loop-holds
     one-case-requires
-    returns
-    sub-left
+    add-counter
     loop-less
     loop-again
-    returns-2)
+    close-requires
+    returns)
