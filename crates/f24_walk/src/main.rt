@@ -2,10 +2,6 @@
 use layout::Flow;
 use walk::Answer;
 
-fn misused(what: &[u8]) {
-    desk::misused(b"f24_walk", what, b"FILE");
-}
-
 // Prints what a step answers, and says whether the walk goes on.
 fn show(answer: Answer, part: &[u8]) -> bool {
     match answer {
@@ -35,29 +31,17 @@ fn walk_through(flow: &[u8]) {
     }
 }
 
-// The room holds one byte more than the longest flow, so that a longer file is refused by the judge.
-fn walk_file(fd: i32) {
-    let mut room = [0u8; Flow::MOST_BYTES + 1];
-    let n = io::read_full(fd, &mut room);
-    if desk::unreadable(fd) {
-        misused(b"FILE cannot be read");
-        return;
-    }
-    walk_through(&room[..n]);
-}
-
 fn main() {
     if os::arg_count() != 2 {
-        misused(b"one argument is needed");
+        desk::misused(b"walk", b"one argument is needed", b"FILE");
         return;
     }
-    let mut path = io::buffer();
-    let n = os::arg(1, &mut path);
-    let fd = os::open_read(&path[..n]);
-    if fd < 0 {
-        misused(b"FILE cannot be opened");
+    // One byte more than the longest flow, so that a longer one is refused by the judge.
+    let mut room = [0u8; Flow::MOST_BYTES + 1];
+    let got = desk::read_flow(b"walk", 1, &mut room);
+    if got < 0 {
         return;
     }
-    walk_file(fd);
-    libc::close(fd);
+    let n = io::count(got, &room);
+    walk_through(&room[..n]);
 }

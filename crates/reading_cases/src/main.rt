@@ -43,49 +43,25 @@ fn make(flow: &[u8], call: Numbers) {
     print_step(flow, call.second as usize);
 }
 
-// Reads a flow of n bytes and makes the call; false where it is not there.
-fn make_next(fd: i32, room: &mut [u8], n: usize, call: Numbers) -> bool {
-    if room.len() < n {
-        return false;
-    }
-    if !desk::read_next(fd, &mut *room, n) {
-        return false;
-    }
-    make(&room[0..n], call);
-    true
-}
-
 // One case; false where there is none left.
 fn one_case(fd: i32) -> bool {
     let mut head = [0u8; 153];
-    if io::read_full(fd, &mut head) < 153 {
+    let mut flow = [0u8; 65522];
+    let got = desk::next_case(fd, &mut head, &mut flow);
+    if got < 0 {
         return false;
     }
-    desk::print_name(&head[0..41]);
-    let n = desk::size_of(&head[146..152]);
-    let call = desk::numbers_of(head);
-    let mut room = [0u8; 65522];
-    make_next(fd, &mut room, n, call)
-}
-
-// Every case, of at most ten thousand.
-fn make_all(fd: i32) {
-    let mut left: usize = 10000;
-    while 0 < left {
-        if !one_case(fd) {
-            return;
-        }
-        left -= 1;
-    }
+    let n = io::count(got, &flow);
+    make(&flow[0..n], desk::numbers_of(head));
+    true
 }
 
 fn main() {
-    let path = b"calls";
-    let fd = os::open_read(path);
-    if fd < 0 {
-        os::fail(path);
-        return;
+    let fd = desk::open_cases(b"calls");
+    for _ in 0..desk::MOST_CASES {
+        if !one_case(fd) {
+            break;
+        }
     }
-    make_all(fd);
     libc::close(fd);
 }
