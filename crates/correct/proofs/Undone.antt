@@ -1,6 +1,6 @@
 -- What the writing of a line's amounts leaves in the flow, and how it is undone.
 use Prim.Native.Nat.{ℕ, _+_, _-_, _*_, _<_, _≤_}
-use mathlib.Core.Path.{_≡_, refl, sym, ap, _∙_}
+use mathlib.Core.Path.{_≡_, refl, sym, ap, ap₂, _∙_}
 use mathlib.Core.Bool.{Bool, true, false}
 use mathlib.Core.List.{List}
 use native.Mathlib.Omega.{arith}
@@ -100,7 +100,7 @@ whole-amounts f d c room x y w =
 module _ (t : List ℕ) where
   pub weighed-by : (negative fits : Bool) → negative ≡ anyNegative startState (recordsOf t) → fits ≡ allFit startState (recordsOf t) → outcomeOf negative fits ≡ weighed t
   unfolding weighed
-  weighed-by negative fits p q = rw (p, q)
+  weighed-by negative fits p q = ap₂ outcomeOf p q
 
   -- What is made fits.
   pub made-fits : weighed t ≡ Made → allFit startState (recordsOf t) ≡ true
@@ -108,21 +108,10 @@ module _ (t : List ℕ) where
   made-fits e = go (anyNegative startState (recordsOf t)) (allFit startState (recordsOf t)) e
     where
       go : (a b : Bool) → outcomeOf a b ≡ Made → b ≡ true
-      go true b e = cc
+      go true true e = refl
+      go true false e = cc
       go false true e = refl
       go false false e = cc
-
-  pub weighed-negative : anyNegative startState (recordsOf t) ≡ true → weighed t ≡ Refused 14 0 0
-  unfolding weighed
-  weighed-negative e = rw e
-
-  pub weighed-made : anyNegative startState (recordsOf t) ≡ false → allFit startState (recordsOf t) ≡ true → weighed t ≡ Made
-  unfolding weighed
-  weighed-made e g = rw (e, g)
-
-  pub weighed-unfit : anyNegative startState (recordsOf t) ≡ false → allFit startState (recordsOf t) ≡ false → weighed t ≡ Refused 23 0 0
-  unfolding weighed
-  weighed-unfit e g = rw (e, g)
 
 -- 22, 9, or what the rest says.
 module _ (k s x y : ℕ) (f : List ℕ) where

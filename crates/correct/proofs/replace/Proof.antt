@@ -79,8 +79,8 @@ returns-2 c =
     let q = c .before .before .before .before .before .before in (
       answered q,
       c .before .before .put-back .ensures
-      ∙ (restored (flow q) _ _ (start q .pre .1) _ _ _ _ _ (q .before .before .before .before .before .before .before .before .before .bytes-at .ensures) (q .before .before .before .before .before .before .before .bytes-at2 .ensures) (wrote q)
-      ∙ sym (left q (c .before .before .before .before .enum-told2 .given .1))),
+          ∙ (restored (flow q) _ _ (start q .pre .1) _ _ _ _ _ (q .before .before .before .before .before .before .before .before .before .bytes-at .ensures) (q .before .before .before .before .before .before .before .bytes-at2 .ensures) (wrote q)
+          ∙ sym (left q (c .before .before .before .before .enum-told2 .given .1))),
     )
 
 pub replace-spec : {M : Type 1} → statement M
