@@ -177,7 +177,7 @@ module _ (f : List ℕ) (d subtype n x y : ℕ) where
       by-rule t true e = by-sign (record { before = t; right = e }) (anyNegative startState (newRecords f d subtype n x y)) refl
       by-rule t false e = (Refused 9 0 0, WrongLine t e)
 
-      by-size : Tried22 f d subtype n x y → Dec (999_999_999_999_999 < x) → Dec (999_999_999_999_999 < y) → (c : Correction) × Answers f d subtype n x y c
+      by-size : Tried22 f d subtype n → Dec (999_999_999_999_999 < x) → Dec (999_999_999_999_999 < y) → (c : Correction) × Answers f d subtype n x y c
       by-size t (yes l) j = (Refused 22 0 0, TooLarge t (inl l))
       by-size t (no i) (yes l) = (Refused 22 0 0, TooLarge t (inr l))
       by-size t (no i) (no j) = by-rule (record { before = t; debit-fits = i; credit-fits = j }) (lineRight s x y) refl

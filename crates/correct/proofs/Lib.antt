@@ -3,6 +3,7 @@ pub mod Mended
 pub mod Split
 pub mod InOrder
 pub mod OtherSums
+pub mod NewRecords
 pub mod OwnNegative
 pub mod TailSum
 pub mod WithinDelega

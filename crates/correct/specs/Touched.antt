@@ -1,4 +1,4 @@
--- "What a correction may touch": columns of the line, of its section's balance record, of its delega's 50-01 and of EF. "Nothing else, fillers and unread fields included."
+-- Believed by who reads the theorems. "What a correction may touch": columns of the line, of its section's balance record, of its delega's 50-01 and of EF. "Nothing else, fillers and unread fields included."
 use Prim.Native.Nat.{ℕ, _+_, _/_, _%_}
 use mathlib.Core.Bool.{Bool, true, false, cond}
 use mathlib.Core.List.{List, [], _∷_}

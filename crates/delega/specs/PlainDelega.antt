@@ -1,4 +1,4 @@
--- What the answer for one delega is measured by: plain sums over the records that carry its number.
+-- Believed by who reads the theorems. What the answer for one delega is measured by: plain sums over the records that carry its number.
 use Prim.Native.Nat.{ℕ}
 use mathlib.Core.Bool.{cond}
 use mathlib.Core.List.{List}
