@@ -1,6 +1,6 @@
 -- What a correction answers, and when: one way for each answer, and the answer for each way.
 use Prim.Native.Nat.{ℕ, _≤_, _<_}
-use mathlib.Core.Path.{_≡_, refl, sym, _∙_}
+use mathlib.Core.Path.{_≡_, refl, sym, ap₂, _∙_}
 use mathlib.Core.Bool.{Bool, true, false, true≢false}
 use mathlib.Core.List.{List}
 use mathlib.Core.Logic.{_↔_, inl, inr}
@@ -11,17 +11,17 @@ use Rattle.rules.specs.State.{startState}
 use Rattle.amounts.specs.Amounts.{lineRight}
 use Rattle.judge.specs.declared.Verdict.{Verdict}
 use Rattle.judge.specs.declared.Verdict.the-variants as Judged
-use Rattle.judge.specs.Flow.{judged}
+use Rattle.judge.specs.Flow.{recordsOf, judged}
 use Rattle.rebalance.specs.Rebalance.{allFit}
 use Rattle.rebalance.specs.Weigh.{anyNegative}
 use Rattle.find.specs.Line.{lineOf, foundIn}
 use Rattle.correct.specs.declared.Correction.{Correction}
 use Rattle.correct.specs.declared.Correction.the-variants.{Made, Refused}
-use Rattle.correct.specs.Correction.{sectionOf, weighed, tried, correctionOf}
+use Rattle.correct.specs.Correction.{sectionOf, outcomeOf, weighed, tried, correctionOf}
 use Rattle.correct.specs.Effect.{withAmounts}
-use Rattle.correct.specs.WhenRefused.{HasLine, Large, Negative, Overflows, newRecords, Tried22, Tried9, Tried14, Tried23, Answers, AsFlow, NoLine, TooLarge, WrongLine, TurnsNegative, HasNoRoom, IsMade}
+use Rattle.correct.specs.WhenRefused.{HasLine, Large, Negative, Overflows, newRecords, Tried22, Tried9, Tried14, Tried23, MayBeMade, Answers, AsFlow, NoLine, TooLarge, WrongLine, TurnsNegative, HasNoRoom, IsMade}
 use Rattle.correct.proofs.Split.{line-found, has-line}
-use Rattle.correct.proofs.Undone.{weighed-negative, weighed-made, weighed-unfit, tried-debit, tried-credit, tried-wrong, tried-weighed}
+use Rattle.correct.proofs.Undone.{tried-debit, tried-credit, tried-wrong, tried-weighed}
 use Rattle.correct.proofs.OwnNegative.{only-own-delega-negative}
 use Rattle.correct.proofs.OwnOverflow.{only-these-can-overflow}
 
@@ -41,6 +41,30 @@ fails false h = refl
 holds : (b : Bool) → (b ≡ false → ⊥) → b ≡ true
 holds true h = refl
 holds false h = absurd (h refl)
+
+-- The tests of the definition, all passed: those of the flow, 21, 22, 9, 14 and 23.
+pub record Passed (f : List ℕ) (d subtype n x y : ℕ) : Type 0 where
+  pub accepted : judged f .verdict ≡ Judged.Accepted
+  pub found : lineOf f d subtype n ≡ 0 → ⊥
+  pub debit-fits : x ≤ 999_999_999_999_999
+  pub credit-fits : y ≤ 999_999_999_999_999
+  pub right : lineRight (sectionOf subtype) x y ≡ true
+  pub not-negative : anyNegative startState (recordsOf (withAmounts f d subtype n x y)) ≡ false
+  pub all-fits : allFit startState (recordsOf (withAmounts f d subtype n x y)) ≡ true
+
+-- 14 is answered where a delega is negative, then 23 where not all fits.
+module _ (t : List ℕ) where
+  weighed-negative : anyNegative startState (recordsOf t) ≡ true → weighed t ≡ Refused 14 0 0
+  unfolding weighed
+  weighed-negative e = rw e
+
+  weighed-made : anyNegative startState (recordsOf t) ≡ false → allFit startState (recordsOf t) ≡ true → weighed t ≡ Made
+  unfolding weighed
+  weighed-made e g = ap₂ outcomeOf e g
+
+  weighed-unfit : anyNegative startState (recordsOf t) ≡ false → allFit startState (recordsOf t) ≡ false → weighed t ≡ Refused 23 0 0
+  unfolding weighed
+  weighed-unfit e g = ap₂ outcomeOf e g
 
 module _ (f : List ℕ) (d subtype n x y : ℕ) where
   abbrev s : ℕ
@@ -84,6 +108,25 @@ module _ (f : List ℕ) (d subtype n x y : ℕ) where
       weighed-is : x ≤ 999_999_999_999_999 → y ≤ 999_999_999_999_999 → lineRight s x y ≡ true → answer ≡ weighed (withAmounts f d subtype n x y)
       weighed-is i j r = tried-is (line-found f d subtype n a h) ∙ tried-weighed k s x y f i j r
 
+  -- A correction that may be made has all tests of the definition passed, and is made.
+  pub passed-of : MayBeMade f d subtype n x y → Passed f d subtype n x y
+  passed-of m =
+      let q = m .before .before in
+      let u = q .before .before in
+      let p = positive-is (u .accepted) (u .line) (m .before .not-negative) in
+      record {
+        accepted = u .accepted;
+        found = line-found f d subtype n (u .accepted) (u .line);
+        debit-fits = small x (q .before .debit-fits);
+        credit-fits = small y (q .before .credit-fits);
+        right = q .right;
+        not-negative = p;
+        all-fits = holds _ (λ e. m .all-fits (overflow-is (u .accepted) (u .line) p .0 e));
+      }
+
+  pub passed-made : Passed f d subtype n x y → answer ≡ Made
+  passed-made m = weighed-is (m .accepted) (has-line f d subtype n (m .accepted) (m .found)) (m .debit-fits) (m .credit-fits) (m .right) ∙ weighed-made (withAmounts f d subtype n x y) (m .not-negative) (m .all-fits)
+
   -- Each way gives its answer.
   answer-of : {c : Correction} → Answers f d subtype n x y c → answer ≡ c
   answer-of (AsFlow e) = flow-is e
@@ -110,12 +153,7 @@ module _ (f : List ℕ) (d subtype n x y : ℕ) where
       let p = positive-is (u .accepted) (u .line) (t .not-negative) in
       weighed-is (u .accepted) (u .line) (small x (q .before .debit-fits)) (small y (q .before .credit-fits)) (q .right)
       ∙ weighed-unfit (withAmounts f d subtype n x y) p (overflow-is (u .accepted) (u .line) p .1 o)
-  answer-of (IsMade m) =
-      let q = m .before .before in
-      let u = q .before .before in
-      let p = positive-is (u .accepted) (u .line) (m .before .not-negative) in
-      weighed-is (u .accepted) (u .line) (small x (q .before .debit-fits)) (small y (q .before .credit-fits)) (q .right)
-      ∙ weighed-made (withAmounts f d subtype n x y) p (holds _ (λ e. m .all-fits (overflow-is (u .accepted) (u .line) p .0 e)))
+  answer-of (IsMade m) = passed-made (passed-of m)
 
   -- One of the ways is taken.
   way : (c : Correction) × Answers f d subtype n x y c
@@ -139,7 +177,7 @@ module _ (f : List ℕ) (d subtype n x y : ℕ) where
       by-rule t true e = by-sign (record { before = t; right = e }) (anyNegative startState (newRecords f d subtype n x y)) refl
       by-rule t false e = (Refused 9 0 0, WrongLine t e)
 
-      by-size : Tried22 f d subtype n x y → Dec (999_999_999_999_999 < x) → Dec (999_999_999_999_999 < y) → (c : Correction) × Answers f d subtype n x y c
+      by-size : Tried22 f d subtype n → Dec (999_999_999_999_999 < x) → Dec (999_999_999_999_999 < y) → (c : Correction) × Answers f d subtype n x y c
       by-size t (yes l) j = (Refused 22 0 0, TooLarge t (inl l))
       by-size t (no i) (yes l) = (Refused 22 0 0, TooLarge t (inr l))
       by-size t (no i) (no j) = by-rule (record { before = t; debit-fits = i; credit-fits = j }) (lineRight s x y) refl

@@ -29,7 +29,8 @@ use Rattle.correct.specs.Correction.{sectionOf, refreshed, correctionOf,
 use Rattle.correct.specs.Effect.{withAmounts, recordNamed, debitOf, creditOf}
 use Rattle.correct.proofs.Amended.{amended, amended-again, line-amended, debit-amended, credit-amended}
 use Rattle.correct.proofs.Split.{Split, line-splits, parts, length-here, within-table, records-replaced}
-use Rattle.correct.proofs.Conditions.{Passed, made-passed, made-bytes}
+use Rattle.correct.proofs.Answered.{Passed}
+use Rattle.correct.proofs.Conditions.{made-passed, made-bytes}
 use Rattle.correct.proofs.StaysAccepted.{accepted-whole, amounts-whole, refreshed-accepted, refreshed-length}
 use Rattle.correct.proofs.Rewritten.{AllAlike, alike-rebalanced, alike-around, same-kinds, same-rebalanced, same-negative, same-fits}
 use Rattle.correct.proofs.SameAmounts.{Own, own}

@@ -42,7 +42,8 @@ use Rattle.correct.specs.Effect.{withAmounts}
 use Rattle.correct.specs.Touched.{lineColumns, signAndBalance, balanceColumns, storedColumns, inAny, mayTouch}
 use Rattle.correct.proofs.Amended.{amended, credit-room, debit-room, line-amended}
 use Rattle.correct.proofs.Split.{Split, line-splits, records-replaced}
-use Rattle.correct.proofs.Conditions.{Passed, made-passed, made-bytes}
+use Rattle.correct.proofs.Answered.{Passed}
+use Rattle.correct.proofs.Conditions.{made-passed, made-bytes}
 use Rattle.correct.proofs.StaysAccepted.{accepted-whole, amounts-whole}
 use Rattle.correct.proofs.Rewritten.{row}
 use Rattle.correct.proofs.OtherSums.{Off, blank-at, off-on, off-line}

@@ -39,10 +39,10 @@ module _ (f : List ℕ) (d subtype n x y : ℕ) where
       go (NoLine a h) = (a, h)
 
   -- 22, "new debit or credit has more digits than its field"
-  pub refused-22 : (correctionOf f d subtype n x y ≡ Refused 22 0 0) ↔ (Tried22 f d subtype n x y × (Large x ⊎ Large y))
+  pub refused-22 : (correctionOf f d subtype n x y ≡ Refused 22 0 0) ↔ (Tried22 f d subtype n × (Large x ⊎ Large y))
   refused-22 = (λ e. go (answered-exactly f d subtype n x y _ .0 e), λ h. answered-exactly f d subtype n x y _ .1 (TooLarge (h .0) (h .1)))
     where
-      go : Answers f d subtype n x y (Refused 22 0 0) → Tried22 f d subtype n x y × (Large x ⊎ Large y)
+      go : Answers f d subtype n x y (Refused 22 0 0) → Tried22 f d subtype n × (Large x ⊎ Large y)
       go (AsFlow e) = absurd (omega (arith, nowhere-told f e))
       go (TooLarge t l) = (t, l)
 

@@ -26,7 +26,8 @@ use Rattle.correct.specs.Effect.{withAmounts, Call, after}
 use Rattle.correct.proofs.Amended.{amended}
 use Rattle.correct.proofs.Mended.{mended-amended}
 use Rattle.correct.proofs.Split.{Split, line-splits, replaced-flat, records-replaced, length-replaced}
-use Rattle.correct.proofs.Conditions.{Passed, made-passed, made-bytes, refused-untouched}
+use Rattle.correct.proofs.Answered.{Passed}
+use Rattle.correct.proofs.Conditions.{made-passed, made-bytes, refused-untouched}
 
 -- A line does not come first, so a record in its place leaves the name of the flow.
 name-behind : (name : List ℕ) (xs : List (List ℕ)) (r t : List ℕ) (ys : List (List ℕ)) (s : ℕ) → kindIn r ≡ Line s → Mendable name startState (xs ++ (r ∷ ys)) → headNameOf (flat (xs ++ (t ∷ ys))) ≡ headNameOf (flat (xs ++ (r ∷ ys)))

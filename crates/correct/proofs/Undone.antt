@@ -1,7 +1,7 @@
 -- What the writing of a line's amounts leaves in the flow, and how it is undone.
 use Prim.Native.Nat.{ℕ, _+_, _-_, _*_, _<_, _≤_}
-use mathlib.Core.Path.{_≡_, refl, sym, ap, _∙_}
-use mathlib.Core.Bool.{true, false}
+use mathlib.Core.Path.{_≡_, refl, sym, ap, ap₂, _∙_}
+use mathlib.Core.Bool.{Bool, true, false}
 use mathlib.Core.List.{List}
 use native.Mathlib.Omega.{arith}
 use borrow.Author.Tests.{lt-ltb, le-ltb}
@@ -21,7 +21,7 @@ use Rattle.judge.specs.Plain.{Whole}
 use Rattle.rebalance.specs.Rebalance.{allFit}
 use Rattle.rebalance.specs.Weigh.{anyNegative}
 use Rattle.correct.specs.declared.Correction.the-variants.{Made, Refused}
-use Rattle.correct.specs.Correction.{replaced, weighed, tried}
+use Rattle.correct.specs.Correction.{replaced, outcomeOf, weighed, tried}
 use Rattle.correct.specs.Writing.{amountsPut, Room, Fifteen, KthLine}
 
 -- A part that lies within the room is put there.
@@ -71,7 +71,7 @@ module _ (f : List ℕ) (d c : ℕ) (room : Room f d c) where
         e₂ ∙ (number-written d 15 x l₁ (number-fits d 15 x (length l₁) (omega arith) (hx .digits)) .1 ∙ ap (putAt d (digitsOf 15 x)) p)
 
     -- What stood there, put back, restores the flow.
-    pub undone : putAt c (take 15 (drop c f)) (putAt d (take 15 (drop d f)) (amountsPut d c x y f)) ≡ f
+    undone : putAt c (take 15 (drop c f)) (putAt d (take 15 (drop d f)) (amountsPut d c x y f)) ≡ f
     unfolding amountsPut
     undone =
         let a = room .apart in
@@ -86,6 +86,10 @@ module _ (f : List ℕ) (d c : ℕ) (room : Room f d c) where
         in
         ap (putAt c (take 15 (drop c f))) inner ∙ (ap (λ (w : ℕ). putAt c (take w (drop c f)) g) (sym m) ∙ put-back c (digitsOf 15 y) f credit-in)
 
+    -- So do the bytes that were copied before the writing.
+    pub restored : (u v g : List ℕ) → u ≡ take 15 (drop d f) → v ≡ take 15 (drop c f) → g ≡ amountsPut d c x y f → putAt c v (putAt d u g) ≡ f
+    restored u v g p q r = rw (p, q, r) undone
+
 -- A flow of whole records is one with other amounts too.
 pub whole-amounts : (f : List ℕ) (d c : ℕ) → Room f d c → (x y : ℕ) → Whole f → Whole (amountsPut d c x y f)
 whole-amounts f d c room x y w =
@@ -94,17 +98,20 @@ whole-amounts f d c room x y w =
 
 -- 14, 23, or made.
 module _ (t : List ℕ) where
-  pub weighed-negative : anyNegative startState (recordsOf t) ≡ true → weighed t ≡ Refused 14 0 0
+  pub weighed-by : (negative fits : Bool) → negative ≡ anyNegative startState (recordsOf t) → fits ≡ allFit startState (recordsOf t) → outcomeOf negative fits ≡ weighed t
   unfolding weighed
-  weighed-negative e = rw e
+  weighed-by negative fits p q = ap₂ outcomeOf p q
 
-  pub weighed-made : anyNegative startState (recordsOf t) ≡ false → allFit startState (recordsOf t) ≡ true → weighed t ≡ Made
+  -- What is made fits.
+  pub made-fits : weighed t ≡ Made → allFit startState (recordsOf t) ≡ true
   unfolding weighed
-  weighed-made e g = rw (e, g)
-
-  pub weighed-unfit : anyNegative startState (recordsOf t) ≡ false → allFit startState (recordsOf t) ≡ false → weighed t ≡ Refused 23 0 0
-  unfolding weighed
-  weighed-unfit e g = rw (e, g)
+  made-fits e = go (anyNegative startState (recordsOf t)) (allFit startState (recordsOf t)) e
+    where
+      go : (a b : Bool) → outcomeOf a b ≡ Made → b ≡ true
+      go true true e = refl
+      go true false e = cc
+      go false true e = refl
+      go false false e = cc
 
 -- 22, 9, or what the rest says.
 module _ (k s x y : ℕ) (f : List ℕ) where

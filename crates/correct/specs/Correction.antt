@@ -37,10 +37,13 @@ replaced k s debit credit f =
 unfoldable pub refreshed : List ℕ → List ℕ
 refreshed f = flat (rebalanced startState (recordsOf f))
 
+-- 14, then 23, by whether a delega is negative and whether all that is stored has room
+abbrev pub outcomeOf : Bool → Bool → Correction
+outcomeOf negative fits = cond negative (Refused 14 0 0) (cond fits Made (Refused 23 0 0))
+
 -- 14 and 23 of a flow whose line has been replaced: "delega negative", then "a new stored total, balance or sum has more digits than its field"
 unfoldable pub weighed : List ℕ → Correction
-weighed f =
-    cond (anyNegative startState (recordsOf f)) (Refused 14 0 0) (cond (allFit startState (recordsOf f)) Made (Refused 23 0 0))
+weighed f = outcomeOf (anyNegative startState (recordsOf f)) (allFit startState (recordsOf f))
 
 -- 22, "above 999,999,999,999,999"
 abbrev pub tooLarge : ℕ → ℕ → Bool

@@ -39,20 +39,20 @@ pub data Overflows (d s : ℕ) (rs : List (List ℕ)) : Type 0 where
   FinalBalance : Large (Delega.linesOf d Debit rs - Delega.linesOf d Credit rs) → Overflows d s rs
   TailSum : Large (linesIn Debit rs - linesIn Credit rs) → Overflows d s rs
 
--- "A correction then tries 21, 22, 9, 14, 23 in this order", of the n-th line of a subtype in delega d and new amounts x and y
+-- "A correction then tries 21, 22, 9, 14, 23 in this order", of the n-th line of a subtype in delega d: 22 is tried where the flow is accepted and has the line
+pub record Tried22 (f : List ℕ) (d subtype n : ℕ) : Type 0 where
+  pub accepted : judged f .verdict ≡ Judged.Accepted
+  pub line : HasLine f d subtype n
+
+-- and the others, of new amounts x and y
 module _ (f : List ℕ) (d subtype n x y : ℕ) where
   -- the records with the line's amounts replaced
   abbrev pub newRecords : List (List ℕ)
   newRecords = recordsOf (withAmounts f d subtype n x y)
 
-  -- 22 is tried where the flow is accepted and has the line
-  pub record Tried22 : Type 0 where
-    pub accepted : judged f .verdict ≡ Judged.Accepted
-    pub line : HasLine f d subtype n
-
   -- 9 is tried where 22 does not hold
   pub record Tried9 : Type 0 where
-    pub before : Tried22
+    pub before : Tried22 f d subtype n
     pub debit-fits : Large x → ⊥
     pub credit-fits : Large y → ⊥
 
@@ -75,7 +75,7 @@ module _ (f : List ℕ) (d subtype n x y : ℕ) where
   pub data Answers : Correction → Type 0 where
     AsFlow : {m r p : ℕ} → judged f .verdict ≡ Judged.Refused m r p → Answers (Refused m r p)
     NoLine : judged f .verdict ≡ Judged.Accepted → (HasLine f d subtype n → ⊥) → Answers (Refused 21 0 0)
-    TooLarge : Tried22 → Large x ⊎ Large y → Answers (Refused 22 0 0)
+    TooLarge : Tried22 f d subtype n → Large x ⊎ Large y → Answers (Refused 22 0 0)
     WrongLine : Tried9 → lineRight (sectionOf subtype) x y ≡ false → Answers (Refused 9 0 0)
     TurnsNegative : Tried14 → Negative d newRecords → Answers (Refused 14 0 0)
     HasNoRoom : Tried23 → Overflows d (sectionOf subtype) newRecords → Answers (Refused 23 0 0)

@@ -4,7 +4,7 @@ ghost use Prim.Native.Nat.{_+_, _≤_};
 ghost use lib.ListN.{length, take, drop};
 ghost use Rattle.text.specs.Placing.{putAt};
 ghost use Rattle.judge.specs.Plain.{Whole};
-ghost use Rattle.correct.specs.Correction.{sectionOf, replaced, refreshed, weighed, tried, bytesAfter, correctionOf, correctedBytes};
+ghost use Rattle.correct.specs.Correction.{sectionOf, replaced, refreshed, outcomeOf, weighed, tried, bytesAfter, correctionOf, correctedBytes};
 ghost use Rattle.correct.specs.Writing.{amountsPut, Room, Fifteen, KthLine};
 use find::Found;
 use layout::Amount;
@@ -54,6 +54,19 @@ fn put_back(flow: &mut [u8], debit_at: usize, credit_at: usize, debit: [u8; 15],
     text::put_part(&mut *flow, credit_at, &credit);
 }
 
+// 14, then 23: what a flow whose line has been replaced is answered.
+fn outcome(negative: bool, fits: bool) -> Correction
+    ensures { λ r. ⌜ r ≡ outcomeOf negative fits ⌝ }
+{
+    if negative {
+        return Correction::Refused(14, 0, 0);
+    }
+    if fits {
+        return Correction::Made;
+    }
+    Correction::Refused(23, 0, 0)
+}
+
 // Replaces a line's amounts, and works everything out afresh; or, where a delega turns negative or a value does not fit, puts them back.
 fn replace(
     flow: &mut [u8],
@@ -70,16 +83,13 @@ fn replace(
     let old_credit = bytes_at(flow, credit_at);
     put_amounts(&mut *flow, debit_at, credit_at, debit, credit);
     let surveyed = rebalance::survey(flow);
-    if surveyed.negative {
-        put_back(&mut *flow, debit_at, credit_at, old_debit, old_credit);
-        return Correction::Refused(14, 0, 0);
-    }
-    if surveyed.fits {
+    let answer = outcome(surveyed.negative, surveyed.fits);
+    if let Correction::Made = answer {
         rebalance::rebalance(&mut *flow);
-        return Correction::Made;
+        return answer;
     }
     put_back(&mut *flow, debit_at, credit_at, old_debit, old_credit);
-    Correction::Refused(23, 0, 0)
+    answer
 }
 
 // 22, 9, 14 and 23, of new amounts for the k-th record, a line of section s.

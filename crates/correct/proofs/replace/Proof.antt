@@ -1,10 +1,37 @@
 -- `correct::replace` meets its contract: where a delega turns negative or a value does not fit, putting the old bytes back undoes the writing.
-use Rattle.correct.specs.Correction.{refreshed}
-use Rattle.correct.proofs.Undone.{undone, whole-amounts, weighed-negative, weighed-made, weighed-unfit}
-use mathlib.Core.Path.{sym, ap, _∙_}
+use Rattle.correct.specs.declared.Correction.{Correction}
+use Rattle.correct.specs.Correction.{refreshed, bytesAfter, weighed}
+use Rattle.correct.specs.Writing.{amountsPut}
+use Rattle.correct.proofs.Undone.{restored, whole-amounts, weighed-by, made-fits}
+use mathlib.Core.List.{List}
+use mathlib.Core.Path.{_≡_, sym, ap, _∙_}
+use Prim.Native.Nat.{ℕ}
 use borrow.Author.Needs.{needs}
 use Rattle.correct.proofs.replace.Statement.{statement}
 use Rattle.correct.proofs.replace.Tie as tie
+
+-- After `outcome`: the function's entry, the flow as it came and with the new amounts, and what is answered.
+abbrev Weighed : Type 0
+Weighed = tie.After-outcome
+
+abbrev start : Weighed → tie.Start
+start c = c .before .before .before .before .before .before .before .before .before .before .before .before
+
+abbrev flow : Weighed → List ℕ
+flow c = start c .args .flow .now
+
+abbrev new : Weighed → List ℕ
+new c = amountsPut (start c .args .debit-at) (start c .args .credit-at) (start c .args .debit) (start c .args .credit) (flow c)
+
+wrote : (c : Weighed) → c .before .before .before .before .before .put-amounts .last .0 ≡ new c
+wrote c = c .before .before .before .before .before .put-amounts .ensures
+
+answered : (c : Weighed) → c .outcome .result ≡ weighed (new c)
+answered c = c .outcome .ensures ∙ weighed-by (new c) _ _ (rw (wrote c) at (c .before .survey .ensures .0)) (rw (wrote c) at (c .before .survey .ensures .1))
+
+-- What an answer leaves.
+left : (c : Weighed) {a : Correction} → c .outcome .result ≡ a → bytesAfter (c .outcome .result) (refreshed (new c)) (flow c) ≡ bytesAfter a (refreshed (new c)) (flow c)
+left c e = ap (λ (a : Correction). bytesAfter a (refreshed (new c)) (flow c)) e
 
 bytes-at-requires : tie.Need-bytes-at-requires
 bytes-at-requires c κs = search needs
@@ -18,49 +45,42 @@ put-amounts-requires c κs = search needs
 survey-requires : tie.Need-survey-requires
 survey-requires c κs = search needs
 
-put-back-requires : tie.Need-put-back-requires
-put-back-requires c κs = search needs
+outcome-requires : tie.Need-outcome-requires
+outcome-requires c κs = search needs
+
+enum-told : tie.Need-enum-told
+enum-told c = search needs
+
+rebalance-requires : tie.Need-rebalance-requires
+rebalance-requires c κs =
+    let q = c .before .before .before in
+    rw (wrote q) (whole-amounts _ _ _ (start q .pre .1) _ _ (start q .pre .0), made-fits (new q) (sym (answered q) ∙ c .before .enum-told .given .1))
 
 same-length : tie.Need-same-length
 same-length c = search needs
 
 returns : tie.Need-returns
+unfolding refreshed
 returns c =
-    let s = c .before .before .before .before .before .before .before .before .before .before .before .before .before .before .before .before in
-    let e = c .before .before .before .before .before .before .before .before .before .put-amounts .ensures in (
-      sym (rw e at (weighed-negative (c .before .before .before .before .before .before .before .before .before .put-amounts .last .0) (sym (c .before .before .before .before .before .survey .ensures .0) ∙ c .before .before .before .before .if1 .taken))),
-      c .before .before .put-back .ensures ∙ rw (c .before .before .before .before .before .before .before .before .before .before .before .before .before .bytes-at .ensures, c .before .before .before .before .before .before .before .before .before .before .before .bytes-at2 .ensures, e) (undone _ _ _ (s .pre .1) _ _),
-    )
+    let q = c .before .before .before .before .before .before in
+    (answered q, c .before .before .rebalance .ensures ∙ (ap refreshed (wrote q) ∙ sym (left q (c .before .before .before .before .enum-told .given .1))))
 
-rebalance-requires : tie.Need-rebalance-requires
-rebalance-requires c κs =
-    let s = c .before .before .before .before .before .before .before .before .before .before .before .before .before .before in
-    let e = c .before .before .before .before .before .before .before .put-amounts .ensures in
-    (rw e (whole-amounts _ _ _ (s .pre .1) _ _ (s .pre .0)), sym (c .before .before .before .survey .ensures .1) ∙ c .before .if2 .taken)
+enum-told-2 : tie.Need-enum-told-2
+enum-told-2 c = search needs
+
+put-back-requires : tie.Need-put-back-requires
+put-back-requires c κs = search needs
 
 same-length-2 : tie.Need-same-length-2
 same-length-2 c = search needs
 
 returns-2 : tie.Need-returns-2
-unfolding refreshed
 returns-2 c =
-    let e = c .before .before .before .before .before .before .before .before .before .before .put-amounts .ensures in (
-      sym (rw e at (weighed-made (c .before .before .before .before .before .before .before .before .before .before .put-amounts .last .0) (sym (c .before .before .before .before .before .before .survey .ensures .0) ∙ c .before .before .before .before .before .if1 .left) (sym (c .before .before .before .before .before .before .survey .ensures .1) ∙ c .before .before .before .before .if2 .taken))),
-      c .before .before .rebalance .ensures ∙ ap refreshed e,
-    )
-
-put-back-requires-2 : tie.Need-put-back-requires-2
-put-back-requires-2 c κs = search needs
-
-same-length-3 : tie.Need-same-length-3
-same-length-3 c = search needs
-
-returns-3 : tie.Need-returns-3
-returns-3 c =
-    let s = c .before .before .before .before .before .before .before .before .before .before .before .before .before .before .before .before .before in
-    let e = c .before .before .before .before .before .before .before .before .before .before .put-amounts .ensures in (
-      sym (rw e at (weighed-unfit (c .before .before .before .before .before .before .before .before .before .before .put-amounts .last .0) (sym (c .before .before .before .before .before .before .survey .ensures .0) ∙ c .before .before .before .before .before .if1 .left) (sym (c .before .before .before .before .before .before .survey .ensures .1) ∙ c .before .before .before .before .if2 .left))),
-      c .before .before .put-back2 .ensures ∙ rw (c .before .before .before .before .before .before .before .before .before .before .before .before .before .before .bytes-at .ensures, c .before .before .before .before .before .before .before .before .before .before .before .before .bytes-at2 .ensures, e) (undone _ _ _ (s .pre .1) _ _),
+    let q = c .before .before .before .before .before .before in (
+      answered q,
+      c .before .before .put-back .ensures
+          ∙ (restored (flow q) _ _ (start q .pre .1) _ _ _ _ _ (q .before .before .before .before .before .before .before .before .before .bytes-at .ensures) (q .before .before .before .before .before .before .before .bytes-at2 .ensures) (wrote q)
+          ∙ sym (left q (c .before .before .before .before .enum-told2 .given .1))),
     )
 
 pub replace-spec : {M : Type 1} → statement M
@@ -71,12 +91,12 @@ replace-spec =
     bytes-at-requires-2
     put-amounts-requires
     survey-requires
-    put-back-requires
+    outcome-requires
+    enum-told
+    rebalance-requires
     same-length
     returns
-    rebalance-requires
+    enum-told-2
+    put-back-requires
     same-length-2
-    returns-2
-    put-back-requires-2
-    same-length-3
-    returns-3)
+    returns-2)

@@ -1,6 +1,7 @@
 -- `rebalance::fill_tail` meets its contract: each of the three values fits its field, and they are written in the order of their refusals.
 use Prim.Native.Nat.{_+_}
 use mathlib.Core.Path.{ap, _∙_}
+use native.Mathlib.Omega.{arith}
 use borrow.Author.Needs.{needs}
 use Rattle.text.specs.Placing.{putAt}
 use Rattle.text.specs.Numbers.{digitsOf}
@@ -13,13 +14,19 @@ add-records : tie.Need-add-records
 add-records c = search needs
 
 store-requires : tie.Need-store-requires
-store-requires c κs = (search needs, search needs, tail-fit (c .before .before .before .before .args .st) (c .before .before .before .before .pre .2) .0)
+store-requires c κs =
+    let p = c .before .before .before .before in
+    let f = tail-fit (p .args .st) (p .pre .2) in
+    (search needs, search needs, omega arith)
 
 store-requires-2 : tie.Need-store-requires-2
 store-requires-2 c κs = search needs
 
 store-requires-3 : tie.Need-store-requires-3
-store-requires-3 c κs = (search needs, search needs, tail-fit (c .before .before .before .before .before .before .before .before .before .before .before .before .args .st) (c .before .before .before .before .before .before .before .before .before .before .before .before .pre .2) .2)
+store-requires-3 c κs =
+    let p = c .before .before .before .before .before .before .before .before .before .before .before .before in
+    let f = tail-fit (p .args .st) (p .pre .2) in
+    (search needs, search needs, omega arith)
 
 same-length : tie.Need-same-length
 same-length c = search needs
