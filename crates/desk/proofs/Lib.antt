@@ -1,2 +1,2 @@
-pub mod Heads
-pub mod Reading
+pub mod Counted
+pub mod Lengths

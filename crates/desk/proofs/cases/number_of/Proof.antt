@@ -1,6 +1,6 @@
 use borrow.Author.Needs.{needs}
-use Rattle.desk.proofs.number_of.Statement.{statement}
-use Rattle.desk.proofs.number_of.Tie as tie
+use Rattle.desk.proofs.cases.number_of.Statement.{statement}
+use Rattle.desk.proofs.cases.number_of.Tie as tie
 
 decimal-requires : tie.Need-decimal-requires
 decimal-requires c κs = search needs

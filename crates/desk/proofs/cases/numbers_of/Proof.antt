@@ -1,7 +1,7 @@
 use Rattle.desk.specs.Header.{numberAt, numbersOf}
 use borrow.Author.Needs.{needs}
-use Rattle.desk.proofs.numbers_of.Statement.{statement}
-use Rattle.desk.proofs.numbers_of.Tie as tie
+use Rattle.desk.proofs.cases.numbers_of.Statement.{statement}
+use Rattle.desk.proofs.cases.numbers_of.Tie as tie
 
 sub-number-of : tie.Need-sub-number-of
 sub-number-of c = search needs

@@ -1,7 +1,7 @@
 use Rattle.desk.specs.Header.{sizeOf}
 use borrow.Author.Needs.{needs}
-use Rattle.desk.proofs.size_of.Statement.{statement}
-use Rattle.desk.proofs.size_of.Tie as tie
+use Rattle.desk.proofs.cases.size_of.Statement.{statement}
+use Rattle.desk.proofs.cases.size_of.Tie as tie
 
 number-requires : tie.Need-number-requires
 number-requires c κs = search needs

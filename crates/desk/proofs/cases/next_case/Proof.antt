@@ -1,9 +1,9 @@
 -- `desk::next_case` meets its contract: the length that the header says is below the room's, which no read changes.
 use lib.ListN.{length}
-use Rattle.desk.proofs.Reading.{count-moved}
+use Rattle.desk.proofs.Counted.{count-moved}
 use borrow.Author.Needs.{needs}
-use Rattle.desk.proofs.next_case.Statement.{statement}
-use Rattle.desk.proofs.next_case.Tie as tie
+use Rattle.desk.proofs.cases.next_case.Statement.{statement}
+use Rattle.desk.proofs.cases.next_case.Tie as tie
 
 read-full-requires : tie.Need-read-full-requires
 read-full-requires c κs = search needs

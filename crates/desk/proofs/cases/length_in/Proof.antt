@@ -1,8 +1,9 @@
+-- `desk::cases::length_in` meets its contract, by whether the header has room for a length.
 use mathlib.Core.Path.{sym, _∙_}
-use Rattle.desk.proofs.Heads.{length-missing, length-read}
+use Rattle.desk.proofs.Lengths.{length-missing, length-read}
 use borrow.Author.Needs.{needs}
-use Rattle.desk.proofs.length_in.Statement.{statement}
-use Rattle.desk.proofs.length_in.Tie as tie
+use Rattle.desk.proofs.cases.length_in.Statement.{statement}
+use Rattle.desk.proofs.cases.length_in.Tie as tie
 
 returns : tie.Need-returns
 returns c = sym (length-missing _ (c .if1 .taken))

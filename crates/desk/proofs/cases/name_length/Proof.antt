@@ -1,8 +1,8 @@
 use lib.ListN.{length}
 use Prim.Native.Nat.{_≤_, _-_}
 use native.Mathlib.Omega.{arith}
-use Rattle.desk.proofs.name_length.Statement.{statement}
-use Rattle.desk.proofs.name_length.Tie as tie
+use Rattle.desk.proofs.cases.name_length.Statement.{statement}
+use Rattle.desk.proofs.cases.name_length.Tie as tie
 
 abbrev Inv-loop : tie.InvT-loop
 Inv-loop head n₀ n = n ≤ length head

@@ -1,5 +1,5 @@
-use Rattle.desk.proofs.read_next.Statement.{statement}
-use Rattle.desk.proofs.read_next.Tie as tie
+use Rattle.desk.proofs.cases.read_next.Statement.{statement}
+use Rattle.desk.proofs.cases.read_next.Tie as tie
 use borrow.Author.Needs.{needs}
 use native.Mathlib.Omega.{arith}
 

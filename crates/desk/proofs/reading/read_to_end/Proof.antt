@@ -1,15 +1,11 @@
-use Rattle.desk.proofs.Reading.{count-moved}
+-- `desk::reading::read_to_end` meets its contract. The loop's invariant: so many bytes lie within the room, whose length no read changes. The measure is what is left of it.
+use Rattle.desk.proofs.Counted.{count-moved}
 use Prim.Native.Nat.{_≤_, _-_}
 use mathlib.Core.Path.{_≡_}
 use lib.ListN.{length}
 use borrow.Author.Needs.{needs}
-use native.Mathlib.Omega.{arith}
-use Rattle.desk.proofs.read_to_end.Statement.{statement}
-use Rattle.desk.proofs.read_to_end.Tie as tie
-use Rattle.desk.proofs.read_to_end.Reads as reads
-use Rattle.desk.proofs.read_to_end.Lts as lts
-use Rattle.io.proofs.count.Reads as count-reads
-use Rattle.libc.proofs.read.Reads as read-reads
+use Rattle.desk.proofs.reading.read_to_end.Statement.{statement}
+use Rattle.desk.proofs.reading.read_to_end.Tie as tie
 
 abbrev Inv-loop : tie.InvT-loop
 Inv-loop fd room₀ done₀ room done = (done ≤ length room) × (length room ≡ length room₀)

@@ -1,0 +1,55 @@
+// Answers, as they are printed.
+use find::Found;
+use judge::Judgement;
+use judge::Verdict;
+use libc::STDOUT_FILENO;
+
+// A judgement, as document 01 has it printed.
+pub fn print_judgement(judgement: Judgement) {
+    let mut text = [0u8; 512];
+    let n = report::judgement_text(judgement, &mut text);
+    io::write_all(STDOUT_FILENO, &text[..n]);
+}
+
+// A refusal: its number, the record and the position.
+pub fn print_refusal(number: u64, at: usize, position: usize) {
+    print_judgement(judge::refused(number, at, position));
+}
+
+// What the desk is shown of one delega: its number and final balance and then its sums, or the refusal.
+pub fn print_delega(flow: &[u8], number: u64) {
+    let answer = delega::delega(flow, number);
+    let verdict = answer.verdict;
+    let sums = answer.sums;
+    match verdict {
+        Verdict::Accepted => {
+            let mut text = [0u8; 512];
+            let n = report::delega_text(number, answer.balance, sums, &mut text);
+            io::write_all(STDOUT_FILENO, &text[..n]);
+        }
+        Verdict::Refused(code, at, position) => print_refusal(code, at, position),
+    }
+}
+
+// What the desk is shown of one line: the number of its record and below it the record, or the refusal.
+pub fn print_line(flow: &[u8], delega: u64, subtype: u64, nth: u64) {
+    let found = find::find(flow, delega, subtype, nth);
+    match found {
+        Found::At(k) => {
+            let mut text = [0u8; 512];
+            let n = report::line_text(k, &mut text);
+            io::write_all(STDOUT_FILENO, &text[..n]);
+            io::write_all(STDOUT_FILENO, find::part_of(flow, found));
+            io::write_all(STDOUT_FILENO, b"\n");
+        }
+        Found::Refused(number, at, position) => print_refusal(number, at, position),
+    }
+}
+
+// A record with its number.
+pub fn print_record(k: usize, part: &[u8]) {
+    io::print_decimal(STDOUT_FILENO, k as u64);
+    io::write_all(STDOUT_FILENO, b" ");
+    io::write_all(STDOUT_FILENO, part);
+    io::write_all(STDOUT_FILENO, b"\n");
+}
