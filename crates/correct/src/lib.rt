@@ -8,6 +8,7 @@ ghost use Rattle.correct.specs.Correction.{sectionOf, replaced, refreshe
 ghost use Rattle.correct.specs.Writing.{amountsPut, Room, Fifteen, KthLine};
 use find::Found;
 use layout::Amount;
+use layout::Flow;
 use layout::Kind;
 
 // The answer: made, or the refusal.
@@ -36,17 +37,23 @@ fn put_amounts(flow: &mut [u8], debit_at: usize, credit_at: usize, debit: u64, c
 }
 
 // The fifteen bytes that start at an index.
-fn bytes_at(flow: &[u8], at: usize) -> [u8; 15]
+fn bytes_at(flow: &[u8], at: usize) -> [u8; Amount::WIDTH]
     requires { ⌜ at + 15 ≤ length (now flow) ⌝ }
     ensures { λ r. ⌜ r ≡ take 15 (drop at (now (flow .entry))) ⌝ }
 {
-    let mut copy = [0u8; 15];
-    text::put_part(&mut copy, 0, &flow[at..at + 15]);
+    let mut copy = [0u8; Amount::WIDTH];
+    text::put_part(&mut copy, 0, &flow[at..at + Amount::WIDTH]);
     copy
 }
 
 // Puts a line's old bytes back.
-fn put_back(flow: &mut [u8], debit_at: usize, credit_at: usize, debit: [u8; 15], credit: [u8; 15])
+fn put_back(
+    flow: &mut [u8],
+    debit_at: usize,
+    credit_at: usize,
+    debit: [u8; Amount::WIDTH],
+    credit: [u8; Amount::WIDTH],
+)
     requires { ⌜ Room (now flow) «debit_at» «credit_at» ⌝ }
     ensures { λ _. ⌜ now (flow .exit) ≡ putAt «credit_at» credit (putAt «debit_at» debit (now (flow .entry))) ⌝ }
 {
@@ -106,7 +113,7 @@ fn try_line(flow: &mut [u8], k: usize, s: usize, debit: u64, credit: u64) -> Cor
     }
     if amounts::line_right(s, debit, credit) {
         let section = layout::section_at(s);
-        let start = (k - 1) * 120;
+        let start = (k - 1) * Flow::RECORD;
         return replace(
             &mut *flow,
             start + section.debit,
