@@ -1,5 +1,5 @@
 -- The stores of a record: one after the other they write its stored fields.
-use Prim.Native.Nat.{ℕ, _-_, _<_}
+use Prim.Native.Nat.{ℕ, _+_, _-_, _<_}
 use mathlib.Core.Path.{_≡_, sym, ap, _∙_}
 use mathlib.Core.Bool.{true, false}
 use mathlib.Core.List.{List, [], _∷_, _++_}
@@ -12,9 +12,10 @@ use Rattle.text.specs.Placing.{putAt}
 use Rattle.layout.specs.declared.Field.{Field}
 use Rattle.layout.specs.declared.Section.{Section}
 use Rattle.layout.specs.declared.Kind.{Kind}
+use Rattle.layout.specs.declared.Kind.the-variants.{Tail}
 use Rattle.layout.specs.Sections.{sectionAt}
 use Rattle.layout.specs.Kinds.{kindIn}
-use Rattle.layout.specs.Fields.{amountAt}
+use Rattle.layout.specs.Fields.{amountAt, tailDeleghe, tailSum, tailRecords}
 use Rattle.layout.proofs.Table.{near-rule}
 use Rattle.amounts.specs.declared.Sums.{Sums}
 use Rattle.rules.specs.declared.State.{State}
@@ -49,6 +50,11 @@ module _ (s : ℕ) (t : Sums) (r : List ℕ) (x : Section) (ex : x ≡ sectionAt
   -- A section without totals has only the rest.
   pub plain-written : x .totals ≡ false → (ys : List ℕ) → ys ≡ putAll (storedBalance s t) r → ys ≡ putAll (storedSection s t) r
   plain-written e ys ey = rw (ap (λ (y : Section). y .totals) (sym ex) ∙ e) ey
+
+-- The tail's two counts are written, and then its sum.
+pub tail-written : (st : State) (r l m ys : List ℕ) → l ≡ written tailDeleghe (st .deleghe) r → m ≡ written tailRecords (st .seen + 1) l → ys ≡ written tailSum (st .money .total) m → ys ≡ putAll (storedOf st Tail) r
+unfolding putAll
+tail-written st r l m ys el em ey = ey ∙ rw (em, el)
 
 -- A record whose stored fields are written is rebalanced.
 pub emit-by : (st : State) (k : Kind) (r ys : List ℕ) → k ≡ kindIn r → ys ≡ putAll (storedOf st k) r → ys ≡ emit st r

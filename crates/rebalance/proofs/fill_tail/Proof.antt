@@ -1,12 +1,8 @@
 -- `rebalance::fill_tail` meets its contract: each of the three values fits its field, and they are written in the order of their refusals.
-use Prim.Native.Nat.{_+_}
-use mathlib.Core.Path.{ap, _∙_}
 use native.Mathlib.Omega.{arith}
 use borrow.Author.Needs.{needs}
-use Rattle.text.specs.Placing.{putAt}
-use Rattle.text.specs.Numbers.{digitsOf}
-use Rattle.rebalance.specs.Rebalance.{putAll}
 use Rattle.rebalance.proofs.Fitting.{tail-fit}
+use Rattle.rebalance.proofs.Stores.{tail-written}
 use Rattle.rebalance.proofs.fill_tail.Statement.{statement}
 use Rattle.rebalance.proofs.fill_tail.Tie as tie
 
@@ -32,10 +28,9 @@ same-length : tie.Need-same-length
 same-length c = search needs
 
 returns : tie.Need-returns
-unfolding putAll
 returns c =
-    let st = c .before .before .before .before .before .before .before .before .before .before .before .before .before .before .before .args .st in
-    c .before .before .store3 .ensures ∙ ap (putAt 52 (digitsOf 15 (st .money .total))) (c .before .before .before .before .before .before .store2 .ensures ∙ ap (putAt 82 (digitsOf 7 (st .seen + 1))) (c .before .before .before .before .before .before .before .before .before .before .store .ensures))
+    let p = c .before .before .before .before .before .before .before .before .before .before .before .before .before .before .before in
+    tail-written (p .args .st) (p .args .rec .now) _ _ _ (c .before .before .before .before .before .before .before .before .before .before .store .ensures) (c .before .before .before .before .before .before .store2 .ensures) (c .before .before .store3 .ensures)
 
 pub fill-tail-spec : {M : Type 1} → statement M
 fill-tail-spec =
