@@ -17,27 +17,13 @@ use Rattle.rules.specs.declared.DelegaSums.{DelegaSums}
 use Rattle.rules.specs.declared.State.{State}
 use Rattle.rules.specs.State.{noSums, zeroDelega, startState}
 use Rattle.rules.specs.Step.{added, addedAt, lineSums}
+use Rattle.judge.proofs.PlainSums.{side-line, side-added, no-side}
 use Rattle.judge.specs.Plain.{Side, Debit, Credit, sideOf, columnOf, stateAfter}
 use Rattle.delega.specs.PlainDelega.{sectionOf, linesOf}
 use Rattle.delega.proofs.Moves.{Standing, Each}
 use Rattle.delega.proofs.OwnRecords.{withLine, atClosing, Ends, own-records}
 
--- one side of a line's amounts, of added sums, and of zeros
-side-line : (x : Side) (s : ℕ) (r : List ℕ) → sideOf x (lineSums (Line s) r) ≡ valueOf r (columnOf x s)
-side-line Debit s r = refl
-side-line Credit s r = refl
-
-side-added : (x : Side) (t u : Sums) → sideOf x (added t u) ≡ sideOf x t + sideOf x u
-side-added Debit t u = refl
-side-added Credit t u = refl
-
-no-side : (x : Side) (n i : ℕ) → sideOf x (getD (replicate n noSums) i noSums) ≡ 0
-no-side Debit zero i = refl
-no-side Credit zero i = refl
-no-side Debit (suc n) zero = refl
-no-side Credit (suc n) zero = refl
-no-side x (suc n) (suc i) = no-side x n i
-
+-- one side of no sums
 pub none-side : (x : Side) → sideOf x noSums ≡ 0
 none-side Debit = refl
 none-side Credit = refl

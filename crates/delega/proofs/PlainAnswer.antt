@@ -21,6 +21,7 @@ use Rattle.judge.specs.declared.Verdict.the-variants.{Accepted}
 use Rattle.judge.specs.declared.Judgement.{Judgement}
 use Rattle.judge.specs.Flow.{recordsOf, headNameOf, judged}
 use Rattle.judge.specs.Plain.{sumOver, Side, Debit, Credit, sideOf, columnOf, stateAfter, NoFault}
+use Rattle.judge.proofs.PlainSums.{cond-true, cond-false}
 use Rattle.judge.proofs.Accepted.{Right, right-of, accepted-means-no-fault, sound-phase, sound-judged}
 use Rattle.delega.specs.declared.DelegaAnswer.{DelegaAnswer}
 use Rattle.delega.specs.OneDelega.{noSuchDelega, answered, closesAt, delegaFrom, delegaOf}
@@ -31,14 +32,6 @@ use Rattle.delega.proofs.OwnRecords.{withLine, atClosing, Ends, own-rec
 use Rattle.delega.proofs.Held.{none-side, line-all, closing, closing-section}
 
 -- a 50-01 that passes holds the debits less the credits, which are not above them
-cond-true : (b : Bool) (n p : ℕ) → cond b Pass (Fault n p) ≡ Pass → b ≡ true
-cond-true true n p e = refl
-cond-true false n p e = cc
-
-cond-false : (b : Bool) (n p : ℕ) → cond b (Fault n p) Pass ≡ Pass → b ≡ false
-cond-false true n p e = cc
-cond-false false n p e = refl
-
 module _ (name : List ℕ) (st : State) (r : List ℕ) (k : kindIn r ≡ Payment) (p : Right name st r) where
   not-negative : st .money .delega .all .credit ≤ st .money .delega .all .debit
   unfolding negativeFault

@@ -5,39 +5,19 @@ use mathlib.Core.Bool.{true, false, cond}
 use mathlib.Core.List.{List}
 use native.Mathlib.Omega.{arith}
 use native.Mathlib.Nat.{sub-zero}
-use lib.Dec.{lit<}
 use lib.ListN.{length, take, drop}
 use Rattle.layout.specs.declared.Kind.{Kind}
-use Rattle.layout.specs.declared.Kind.the-variants.{Head, Taxpayer, Domicile, Line, Balance, Payment, Receipt, Addressee, Tail, Unknown}
 use Rattle.layout.specs.Kinds.{kindIn}
 use Rattle.rules.specs.declared.State.{State}
-use Rattle.rules.specs.State.{noSums, startState}
-use Rattle.rules.specs.Bounds.{Small, StateBelow}
-use Rattle.rules.specs.Values.{valuesIn}
+use Rattle.rules.specs.State.{startState}
+use Rattle.rules.specs.Bounds.{StateBelow}
 use Rattle.rules.specs.Step.{lineSums, nextOf, next}
 use Rattle.rules.proofs.Growth.{start-below, state-on}
 use Rattle.judge.specs.Flow.{chunks, recordsOf, restOf}
 use Rattle.judge.proofs.Records.{chunks-on}
-use Rattle.judge.proofs.Turn.{pair-small}
+use Rattle.judge.proofs.Turn.{sums-small}
 use Rattle.delega.specs.declared.DelegaAnswer.{DelegaAnswer}
 use Rattle.delega.specs.OneDelega.{noSuchDelega, answered, closesAt, delegaFrom}
-
--- amounts have at most fifteen digits
-none-small : Small noSums
-none-small = record { debit-small = lit< tt; credit-small = lit< tt }
-
-pub sums-small : (k : Kind) (r : List ℕ) → length r ≡ 120 → Small (lineSums k r)
-unfolding valuesIn
-sums-small Head r l = none-small
-sums-small Taxpayer r l = none-small
-sums-small Domicile r l = none-small
-sums-small (Line s) r l = pair-small (Line s) r l
-sums-small (Balance s) r l = none-small
-sums-small Payment r l = none-small
-sums-small Receipt r l = none-small
-sums-small Addressee r l = none-small
-sums-small Tail r l = none-small
-sums-small Unknown r l = none-small
 
 -- the search for delega d, whose answer is a, has come to the state st: what a is, the rest gives from st
 pub record Searching (flow : List ℕ) (d : ℕ) (a : DelegaAnswer) (st : State) : Type 0 where

@@ -19,12 +19,11 @@ use Rattle.amounts.specs.declared.Outcome.the-variants.{Pass, Fault}
 use Rattle.rules.specs.declared.State.{State}
 use Rattle.rules.specs.State.{noSums, startState}
 use Rattle.order.specs.Stages.{atStart, afterHead, afterTaxpayer, afterLine, afterBalance, afterPayment, afterReceipt, afterAddressee}
-use Rattle.order.specs.Order.{among, stands}
+use Rattle.order.specs.Order.{among, stands, nextStage}
 use Rattle.amounts.specs.Amounts.{finalOf}
 use Rattle.rules.specs.Stored.{storedOf, wrong}
 use Rattle.rules.specs.Checks.{ownFault, negativeFault}
 use Rattle.rules.specs.Step.{added, addedAt, lineSums, nextMoney, next}
-use Rattle.order.specs.Order.{nextStage}
 use Rattle.judge.specs.declared.Verdict.the-variants.{Accepted}
 use Rattle.judge.specs.declared.Judgement.{Judgement}
 use Rattle.judge.specs.Flow.{recordsOf, headNameOf, judged}
@@ -33,15 +32,15 @@ use Rattle.judge.proofs.Accepted.{right-of, accepted-means-no-fault, so
 use Rattle.judge.proofs.Counts.{accepted-adds}
 
 -- a line adds to its own section on both sides, and to no other
-side-line : (x : Side) (s : ℕ) (r : List ℕ) → sideOf x (lineSums (Line s) r) ≡ valueOf r (columnOf x s)
+pub side-line : (x : Side) (s : ℕ) (r : List ℕ) → sideOf x (lineSums (Line s) r) ≡ valueOf r (columnOf x s)
 side-line Debit s r = refl
 side-line Credit s r = refl
 
-side-added : (x : Side) (t u : Sums) → sideOf x (added t u) ≡ sideOf x t + sideOf x u
+pub side-added : (x : Side) (t u : Sums) → sideOf x (added t u) ≡ sideOf x t + sideOf x u
 side-added Debit t u = refl
 side-added Credit t u = refl
 
-no-side : (x : Side) (n i : ℕ) → sideOf x (getD (replicate n noSums) i noSums) ≡ 0
+pub no-side : (x : Side) (n i : ℕ) → sideOf x (getD (replicate n noSums) i noSums) ≡ 0
 no-side Debit zero i = refl
 no-side Credit zero i = refl
 no-side Debit (suc n) zero = refl
@@ -76,11 +75,11 @@ module _ (x : Side) (i : ℕ) (r : List ℕ) where
   section-adds Unknown m h = (h, omega arith)
 
 -- a 50-01 that passes holds the debits of its delega less the credits, which are not above them
-cond-true : (b : Bool) (n p : ℕ) → cond b Pass (Fault n p) ≡ Pass → b ≡ true
+pub cond-true : (b : Bool) (n p : ℕ) → cond b Pass (Fault n p) ≡ Pass → b ≡ true
 cond-true true n p e = refl
 cond-true false n p e = cc
 
-cond-false : (b : Bool) (n p : ℕ) → cond b (Fault n p) Pass ≡ Pass → b ≡ false
+pub cond-false : (b : Bool) (n p : ℕ) → cond b (Fault n p) Pass ≡ Pass → b ≡ false
 cond-false true n p e = cc
 cond-false false n p e = refl
 

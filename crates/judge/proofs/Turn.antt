@@ -21,6 +21,7 @@ use Rattle.text.specs.Numbers.{numberFrom, numberOf, amountOf}
 use Rattle.text.proofs.Numerals.{number-below}
 use Rattle.layout.specs.declared.Field.{Field}
 use Rattle.layout.specs.declared.Kind.{Kind}
+use Rattle.layout.specs.declared.Kind.the-variants.{Head, Taxpayer, Domicile, Line, Balance, Payment, Receipt, Addressee, Tail, Unknown}
 use Rattle.layout.specs.Kinds.{typeIn, kindIn}
 use Rattle.layout.specs.Fields.{Within, nowhere, fieldsOf, bytesOf, valueOf, delegaNumber}
 use Rattle.layout.proofs.Within.{fields-within, fields-four}
@@ -28,14 +29,14 @@ use Rattle.amounts.specs.declared.Sums.{Sums}
 use Rattle.amounts.specs.declared.Outcome.{Outcome}
 use Rattle.amounts.specs.declared.Outcome.the-variants.{Pass, Fault}
 use Rattle.rules.specs.declared.State.{State}
-use Rattle.rules.specs.State.{startState}
+use Rattle.rules.specs.State.{noSums, startState}
 use Rattle.rules.specs.Bounds.{Small, StateBelow}
 use Rattle.amounts.specs.Outcomes.{first}
 use Rattle.order.specs.Order.{standing}
 use Rattle.rules.specs.Checks.{charFault, orBad, badFields, numberFault, ownFault, fault}
 use Rattle.rules.specs.Stored.{storedOf, wrong}
 use Rattle.rules.specs.Values.{valuesIn, valuesOn}
-use Rattle.rules.specs.Step.{nextOf, next}
+use Rattle.rules.specs.Step.{lineSums, nextOf, next}
 use Rattle.rules.proofs.Reading.{pairOf, values-read, step-read}
 use Rattle.rules.proofs.Growth.{start-below, state-on}
 use Rattle.judge.specs.declared.Judgement.{Judgement}
@@ -122,6 +123,24 @@ each-small fl r l w i = go (decLt i (length fl))
 pub pair-small : (k : Kind) (r : List ℕ) → length r ≡ 120 → Small (pairOf (valuesIn (fieldsOf k) r))
 unfolding valuesIn
 pair-small k r l = record { debit-small = each-small (fieldsOf k) r l (fields-within k) 1; credit-small = each-small (fieldsOf k) r l (fields-within k) 2 }
+
+-- the amounts of a record that is no line are none, and small
+none-small : Small noSums
+none-small = record { debit-small = omega arith; credit-small = omega arith }
+
+-- the amounts of a record have at most fifteen digits
+pub sums-small : (k : Kind) (r : List ℕ) → length r ≡ 120 → Small (lineSums k r)
+unfolding valuesIn
+sums-small Head r l = none-small
+sums-small Taxpayer r l = none-small
+sums-small Domicile r l = none-small
+sums-small (Line s) r l = pair-small (Line s) r l
+sums-small (Balance s) r l = none-small
+sums-small Payment r l = none-small
+sums-small Receipt r l = none-small
+sums-small Addressee r l = none-small
+sums-small Tail r l = none-small
+sums-small Unknown r l = none-small
 
 -- the state st is where the judgement j of the flow's first records has come to: what j is, the rest gives from st
 pub record Going (flow : List ℕ) (j : Judgement) (st : State) : Type 0 where

@@ -7,37 +7,16 @@ use native.Mathlib.Nat.{sub-zero}
 use lib.ListN.{length, take, drop, length-drop}
 use lib.Seq.{length-take-le}
 use Rattle.layout.specs.declared.Kind.{Kind}
-use Rattle.layout.specs.declared.Kind.the-variants.{Head, Taxpayer, Domicile, Line, Balance, Payment, Receipt, Addressee, Tail, Unknown}
 use Rattle.layout.specs.Kinds.{kindIn}
 use Rattle.amounts.specs.declared.Sums.{Sums}
 use Rattle.rules.specs.declared.State.{State}
-use Rattle.rules.specs.State.{noSums}
-use Rattle.rules.specs.Bounds.{Small, MoneyBelow, StateBelow}
-use Rattle.rules.specs.Values.{valuesIn}
+use Rattle.rules.specs.Bounds.{MoneyBelow, StateBelow}
 use Rattle.rules.specs.Step.{lineSums, nextOf, next}
 use Rattle.rules.proofs.Growth.{money-room, state-on}
 use Rattle.judge.specs.Flow.{chunks, recordsOf, restOf}
 use Rattle.judge.proofs.Records.{chunks-on}
-use Rattle.judge.proofs.Turn.{pair-small}
+use Rattle.judge.proofs.Turn.{sums-small}
 use Rattle.rebalance.specs.Weigh.{Turn}
-
--- No amounts are small.
-none-small : Small noSums
-none-small = record { debit-small = omega arith; credit-small = omega arith }
-
--- The amounts of a record have at most fifteen digits.
-pub sums-small : (k : Kind) (r : List ℕ) → length r ≡ 120 → Small (lineSums k r)
-unfolding valuesIn
-sums-small Head r l = none-small
-sums-small Taxpayer r l = none-small
-sums-small Domicile r l = none-small
-sums-small (Line s) r l = pair-small (Line s) r l
-sums-small (Balance s) r l = none-small
-sums-small Payment r l = none-small
-sums-small Receipt r l = none-small
-sums-small Addressee r l = none-small
-sums-small Tail r l = none-small
-sums-small Unknown r l = none-small
 
 -- The state after a record, by its kind and its amounts.
 pub next-by : (st : State) (k : Kind) (r : List ℕ) (x : Sums) → k ≡ kindIn r → x ≡ lineSums k r → nextOf st k x ≡ next st r

@@ -1,5 +1,6 @@
 -- `delega::delega_from` meets its contract. The invariant: what the whole search answers, the rest of the records gives from the state; the measure is the records that are left.
-use Rattle.delega.proofs.Search.{Searching, search-start, search-end, search-found, search-on, sums-small}
+use Rattle.delega.proofs.Search.{Searching, search-start, search-end, search-found, search-on}
+use Rattle.judge.proofs.Turn.{sums-small}
 use Rattle.delega.specs.OneDelega.{delegaFrom}
 use Rattle.judge.specs.Flow.{recordsOf}
 use Rattle.rules.proofs.Growth.{money-room}

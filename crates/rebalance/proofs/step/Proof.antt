@@ -2,7 +2,8 @@
 use mathlib.Core.Path.{_∙_}
 use native.Mathlib.Omega.{arith}
 use borrow.Author.Needs.{needs}
-use Rattle.rebalance.proofs.Turns.{sums-small, next-by, money-fits}
+use Rattle.judge.proofs.Turn.{sums-small}
+use Rattle.rebalance.proofs.Turns.{next-by, money-fits}
 use Rattle.rebalance.proofs.step.Statement.{statement}
 use Rattle.rebalance.proofs.step.Tie as tie
 
