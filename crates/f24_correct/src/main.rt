@@ -1,6 +1,6 @@
 // Corrects one line of the flow in a file. The corrected flow is written to a new file beside it, which then takes its name, so that
-// the file holds either the old flow or the new one, whole. Two corrections at once are kept apart by the launcher, which locks the folder: the system's C
-// library offers no lock here.
+// the file holds either the old flow or the new one, whole. Two corrections at once are kept apart by the launcher, which locks the folder: the
+// kit's C library has no lock.
 ghost use Rattle.io.specs.Counts.{Counts};
 use args::Argument;
 use correct::Correction;
