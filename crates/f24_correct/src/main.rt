@@ -1,5 +1,6 @@
 // Corrects one line of the flow in a file. The corrected flow is written to a new file beside it, which then takes its name, so that
-// the file holds either the old flow or the new one, whole.
+// the file holds either the old flow or the new one, whole. Two corrections at once are kept apart by the launcher, which locks the folder: the
+// kit's C library has no lock.
 ghost use Rattle.io.specs.Counts.{Counts};
 use args::Argument;
 use correct::Correction;
@@ -24,8 +25,8 @@ struct Access {
     mode: u32,
 }
 
-// One line on standard error for what is wrong with the named file itself.
-fn unsuited(path: &[u8], what: &[u8]) {
+// One line on standard error about the named file.
+fn tell_of(path: &[u8], what: &[u8]) {
     desk::begin_line(b"correct");
     io::write_all(STDERR_FILENO, path);
     io::write_all(STDERR_FILENO, what);
@@ -124,7 +125,7 @@ fn replaced(fd: i32, new: &[u8], old: &[u8], access: Access, flow: &[u8]) -> boo
         return false;
     }
     if !kept {
-        unsuited(
+        tell_of(
             old,
             b" is corrected, and is now yours: its owner or group could not be kept\n",
         );
@@ -203,7 +204,7 @@ fn correct_bytes(fd: i32, path: &[u8], access: Access, call: Call) {
 fn correct_open(fd: i32, path: &[u8], call: Call) {
     let status = status_of(fd);
     if status.st_mode & libc::S_IFMT != libc::S_IFREG {
-        unsuited(path, b" is not a regular file\n");
+        tell_of(path, b" is not a regular file\n");
         return;
     }
     let access = Access {
@@ -232,14 +233,14 @@ fn correct_at(room: [u8; 4096], path: &[u8], call: Call) {
     }
     if fd < 3 {
         libc::close(fd);
-        unsuited(
+        tell_of(
             path,
             b" is as it was: standard input, output and error must be open\n",
         );
         return;
     }
     if is_link(room) {
-        unsuited(path, b" is a link: name the file itself\n");
+        tell_of(path, b" is a link: name the file itself\n");
     } else {
         correct_open(fd, path, call);
     }
