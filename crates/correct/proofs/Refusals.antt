@@ -29,42 +29,48 @@ nowhere-told f {m} {p} e = go (refused-exactly f (refusal m 0 p) .0 (ap refusalO
     go (FaultAt w q) = absurd (omega (arith, q .counted))
     go (NoTail w u q) = absurd (omega (arith, ap (λ (t : Refusal). t .«record») q))
 
+-- What an answer's number, record and position say, the answer is.
+told-as : (c : Correction) (m r p : ℕ) → (m ≡ 0 → ⊥) → refusalMade c ≡ refusal m r p → c ≡ Refused m r p
+told-as Made m r p z e = absurd (z (sym (ap (λ (t : Refusal). t .number) e)))
+told-as (Refused i j k) m r p z e =
+    rw (ap (λ (t : Refusal). t .number) e, ap (λ (t : Refusal). t .«record») e, ap (λ (t : Refusal). t .position) e)
+
 module _ (f : List ℕ) (d subtype n x y : ℕ) where
   -- 21, "no such delega, section or line"
-  pub refused-21 : (correctionOf f d subtype n x y ≡ Refused 21 0 0) ↔ ((judged f .verdict ≡ Judged.Accepted) × (HasLine f d subtype n → ⊥))
-  refused-21 = (λ e. go (answered-exactly f d subtype n x y _ .0 e), λ h. answered-exactly f d subtype n x y _ .1 (NoLine (h .0) (h .1)))
+  pub refused-21 : (refusalMade (correctionOf f d subtype n x y) ≡ refusal 21 0 0) ↔ ((judged f .verdict ≡ Judged.Accepted) × (HasLine f d subtype n → ⊥))
+  refused-21 = (λ e. go (answered-exactly f d subtype n x y _ .0 (told-as _ 21 0 0 (λ z. omega arith) e)), λ h. ap refusalMade (answered-exactly f d subtype n x y _ .1 (NoLine (h .0) (h .1))))
     where
       go : Answers f d subtype n x y (Refused 21 0 0) → (judged f .verdict ≡ Judged.Accepted) × (HasLine f d subtype n → ⊥)
       go (AsFlow e) = absurd (omega (arith, nowhere-told f e))
       go (NoLine a h) = (a, h)
 
   -- 22, "new debit or credit has more digits than its field"
-  pub refused-22 : (correctionOf f d subtype n x y ≡ Refused 22 0 0) ↔ (Tried22 f d subtype n × (Large x ⊎ Large y))
-  refused-22 = (λ e. go (answered-exactly f d subtype n x y _ .0 e), λ h. answered-exactly f d subtype n x y _ .1 (TooLarge (h .0) (h .1)))
+  pub refused-22 : (refusalMade (correctionOf f d subtype n x y) ≡ refusal 22 0 0) ↔ (Tried22 f d subtype n × (Large x ⊎ Large y))
+  refused-22 = (λ e. go (answered-exactly f d subtype n x y _ .0 (told-as _ 22 0 0 (λ z. omega arith) e)), λ h. ap refusalMade (answered-exactly f d subtype n x y _ .1 (TooLarge (h .0) (h .1))))
     where
       go : Answers f d subtype n x y (Refused 22 0 0) → Tried22 f d subtype n × (Large x ⊎ Large y)
       go (AsFlow e) = absurd (omega (arith, nowhere-told f e))
       go (TooLarge t l) = (t, l)
 
   -- 9, "line amounts break the line rule"
-  pub refused-9 : (correctionOf f d subtype n x y ≡ Refused 9 0 0) ↔ (Tried9 f d subtype n x y × (lineRight (sectionOf subtype) x y ≡ false))
-  refused-9 = (λ e. go (answered-exactly f d subtype n x y _ .0 e), λ h. answered-exactly f d subtype n x y _ .1 (WrongLine (h .0) (h .1)))
+  pub refused-9 : (refusalMade (correctionOf f d subtype n x y) ≡ refusal 9 0 0) ↔ (Tried9 f d subtype n x y × (lineRight (sectionOf subtype) x y ≡ false))
+  refused-9 = (λ e. go (answered-exactly f d subtype n x y _ .0 (told-as _ 9 0 0 (λ z. omega arith) e)), λ h. ap refusalMade (answered-exactly f d subtype n x y _ .1 (WrongLine (h .0) (h .1))))
     where
       go : Answers f d subtype n x y (Refused 9 0 0) → Tried9 f d subtype n x y × (lineRight (sectionOf subtype) x y ≡ false)
       go (AsFlow e) = absurd (omega (arith, nowhere-told f e))
       go (WrongLine t e) = (t, e)
 
   -- 14, "delega negative"
-  pub refused-14 : (correctionOf f d subtype n x y ≡ Refused 14 0 0) ↔ (Tried14 f d subtype n x y × Negative d (newRecords f d subtype n x y))
-  refused-14 = (λ e. go (answered-exactly f d subtype n x y _ .0 e), λ h. answered-exactly f d subtype n x y _ .1 (TurnsNegative (h .0) (h .1)))
+  pub refused-14 : (refusalMade (correctionOf f d subtype n x y) ≡ refusal 14 0 0) ↔ (Tried14 f d subtype n x y × Negative d (newRecords f d subtype n x y))
+  refused-14 = (λ e. go (answered-exactly f d subtype n x y _ .0 (told-as _ 14 0 0 (λ z. omega arith) e)), λ h. ap refusalMade (answered-exactly f d subtype n x y _ .1 (TurnsNegative (h .0) (h .1))))
     where
       go : Answers f d subtype n x y (Refused 14 0 0) → Tried14 f d subtype n x y × Negative d (newRecords f d subtype n x y)
       go (AsFlow e) = absurd (omega (arith, nowhere-told f e))
       go (TurnsNegative t h) = (t, h)
 
   -- 23, "a new stored total, balance or sum has more digits than its field"
-  pub refused-23 : (correctionOf f d subtype n x y ≡ Refused 23 0 0) ↔ (Tried23 f d subtype n x y × Overflows d (sectionOf subtype) (newRecords f d subtype n x y))
-  refused-23 = (λ e. go (answered-exactly f d subtype n x y _ .0 e), λ h. answered-exactly f d subtype n x y _ .1 (HasNoRoom (h .0) (h .1)))
+  pub refused-23 : (refusalMade (correctionOf f d subtype n x y) ≡ refusal 23 0 0) ↔ (Tried23 f d subtype n x y × Overflows d (sectionOf subtype) (newRecords f d subtype n x y))
+  refused-23 = (λ e. go (answered-exactly f d subtype n x y _ .0 (told-as _ 23 0 0 (λ z. omega arith) e)), λ h. ap refusalMade (answered-exactly f d subtype n x y _ .1 (HasNoRoom (h .0) (h .1))))
     where
       go : Answers f d subtype n x y (Refused 23 0 0) → Tried23 f d subtype n x y × Overflows d (sectionOf subtype) (newRecords f d subtype n x y)
       go (AsFlow e) = absurd (omega (arith, nowhere-told f e))

@@ -4,3 +4,4 @@ pub mod Moves
 pub mod OwnRecords
 pub mod Held
 pub mod PlainAnswer
+pub mod WhenAnswered

@@ -6,14 +6,16 @@ use libc::STDOUT_FILENO;
 
 // A judgement, as document 01 has it printed.
 pub fn print_judgement(judgement: Judgement) {
-    let mut text = [0u8; 512];
+    let mut text = [0u8; report::ROOM];
     let n = report::judgement_text(judgement, &mut text);
     io::write_all(STDOUT_FILENO, &text[..n]);
 }
 
 // A refusal: its number, the record and the position.
 pub fn print_refusal(number: u64, at: usize, position: usize) {
-    print_judgement(judge::refused(number, at, position));
+    let mut text = [0u8; report::ROOM];
+    let n = report::refusal_text(number, at, position, &mut text);
+    io::write_all(STDOUT_FILENO, &text[..n]);
 }
 
 // What the desk is shown of one delega: its number and final balance and then its sums, or the refusal.
@@ -23,7 +25,7 @@ pub fn print_delega(flow: &[u8], number: u64) {
     let sums = answer.sums;
     match verdict {
         Verdict::Accepted => {
-            let mut text = [0u8; 512];
+            let mut text = [0u8; report::ROOM];
             let n = report::delega_text(number, answer.balance, sums, &mut text);
             io::write_all(STDOUT_FILENO, &text[..n]);
         }
@@ -36,7 +38,7 @@ pub fn print_line(flow: &[u8], delega: u64, subtype: u64, nth: u64) {
     let found = find::find(flow, delega, subtype, nth);
     match found {
         Found::At(k) => {
-            let mut text = [0u8; 512];
+            let mut text = [0u8; report::ROOM];
             let n = report::line_text(k, &mut text);
             io::write_all(STDOUT_FILENO, &text[..n]);
             io::write_all(STDOUT_FILENO, find::part_of(flow, found));

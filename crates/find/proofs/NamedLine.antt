@@ -18,8 +18,10 @@ use Rattle.judge.specs.declared.Verdict.the-variants.{Accepted}
 use Rattle.judge.specs.Flow.{recordsOf, headNameOf, judged}
 use Rattle.judge.proofs.Accepted.{accepted-means-no-fault}
 use Rattle.judge.proofs.Records.{record-number}
+use Rattle.judge.specs.Refusal.{Refusal, refusal}
+use Rattle.find.specs.declared.Found.{Found}
 use Rattle.find.specs.declared.Found.the-variants as Answer
-use Rattle.find.specs.Line.{lineOf, orAbsent, foundIn}
+use Rattle.find.specs.Line.{refusalFound, lineOf, orAbsent, foundIn}
 use Rattle.find.specs.NamedLine.{lineWith, countOf, NthLine}
 use Rattle.find.proofs.Subtypes.{Other, no-other, LineOrOther, line-or-other, named-row, row-named, line-row}
 use Rattle.find.proofs.NthIn.{NthIn, countTo, counted-is-nth, nth-is-counted, none-counted}
@@ -127,8 +129,8 @@ found-exactly f d subtype n k a =
     )
 
 -- 21, "no such delega, section or line": exactly where no record is the line so named
-pub absent-exactly : (f : List ℕ) (d subtype n : ℕ) → judged f .verdict ≡ Accepted → (foundIn f d subtype n ≡ Answer.Refused 21 0 0) ↔ ((k : ℕ) → NthLine f d subtype n k → ⊥)
-absent-exactly f d subtype n a =
+absent-answered : (f : List ℕ) (d subtype n : ℕ) → judged f .verdict ≡ Accepted → (foundIn f d subtype n ≡ Answer.Refused 21 0 0) ↔ ((k : ℕ) → NthLine f d subtype n k → ⊥)
+absent-answered f d subtype n a =
     let w = accepted-answer f d subtype n a in (
       λ e k h. omega (arith, at-none (lineOf f d subtype n) (sym w ∙ e), line-of-named f d subtype n k a h, h .counted),
       λ h. w ∙ rw (eq-eqb (lineOf f d subtype n) 0 (none h (ℕ-discrete (lineOf f d subtype n) 0))),
@@ -137,3 +139,15 @@ absent-exactly f d subtype n a =
     none : ((k : ℕ) → NthLine f d subtype n k → ⊥) → Dec (lineOf f d subtype n ≡ 0) → lineOf f d subtype n ≡ 0
     none h (yes z) = z
     none h (no z) = absurd (h (lineOf f d subtype n) (named-line f d subtype n (lineOf f d subtype n) a refl z))
+
+-- what an answer's number, record and position say, the answer is
+told-as : (a : Found) (m r p : ℕ) → (m ≡ 0 → ⊥) → refusalFound a ≡ refusal m r p → a ≡ Answer.Refused m r p
+told-as (Answer.At k) m r p z e = absurd (z (sym (ap (λ (t : Refusal). t .number) e)))
+told-as (Answer.Refused i j k) m r p z e =
+    rw (ap (λ (t : Refusal). t .number) e, ap (λ (t : Refusal). t .«record») e, ap (λ (t : Refusal). t .position) e)
+
+-- 21, "no such delega, section or line", exactly where no record is that line
+pub absent-exactly : (f : List ℕ) (d subtype n : ℕ) → judged f .verdict ≡ Accepted → (refusalFound (foundIn f d subtype n) ≡ refusal 21 0 0) ↔ ((k : ℕ) → NthLine f d subtype n k → ⊥)
+absent-exactly f d subtype n a =
+    let w = absent-answered f d subtype n a in
+    (λ e. w .0 (told-as _ 21 0 0 (λ z. omega arith) e), λ h. ap refusalFound (w .1 h))

@@ -185,9 +185,9 @@ pub judged-ragged : (s : List ℕ) → length s ≤ 65520 → (length s ≡ 0 �
 unfolding judged
 judged-ragged s h e f = rw (le-ltb _ _ h, ne-eqb _ _ e, ne-eqb _ _ f)
 
-pub judged-whole : (s : List ℕ) → length s ≤ 65520 → (length s ≡ 0 → ⊥) → length s % 120 ≡ 0 → judged s ≡ judgedFrom (headNameOf s) startState (restOf s (startState .seen))
+pub judged-from-start : (s : List ℕ) → length s ≤ 65520 → (length s ≡ 0 → ⊥) → length s % 120 ≡ 0 → judged s ≡ judgedFrom (headNameOf s) startState (restOf s (startState .seen))
 unfolding judged startState
-judged-whole s h e f = rw (le-ltb _ _ h, ne-eqb _ _ e, eq-eqb _ _ f, sub-zero)
+judged-from-start s h e f = rw (le-ltb _ _ h, ne-eqb _ _ e, eq-eqb _ _ f, sub-zero)
 
 pub ready-start : (s : List ℕ) → length s ≤ 65520 → (length s ≡ 0 → ⊥) → length s % 120 ≡ 0 → Ready s startState
 unfolding startState

@@ -1,4 +1,4 @@
--- Believed. The judgement of a flow: the first fault in the order of the records, or acceptance with the counts and sums.
+-- Believed; `restOf` and `Ready` serve inner functions. The judgement of a flow: the first fault in the order of the records, or acceptance with the counts and sums.
 use Prim.Native.Nat.{ℕ, zero, suc, _+_, _-_, _*_, _/_, _%_, _≤_, _<_}
 use mathlib.Core.Path.{_≡_}
 use mathlib.Core.List.{List, [], _∷_}

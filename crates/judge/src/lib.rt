@@ -45,7 +45,7 @@ pub struct Judgement {
 }
 
 // A refusal beside a summary of zeros.
-pub fn refused(number: u64, at: usize, position: usize) -> Judgement
+fn refused(number: u64, at: usize, position: usize) -> Judgement
     ensures { λ r. ⌜ r ≡ refusedWith number at position ⌝ }
 {
     Judgement {

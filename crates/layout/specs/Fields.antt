@@ -1,4 +1,4 @@
--- Believed; `listed` and `Within`, the last two, serve inner functions. The numeric fields of each kind of record, in the order of position, and what they hold.
+-- Believed; `listed` and `Within` serve inner functions. The numeric fields of each kind of record, in the order of position, and what they hold.
 use Prim.Native.Nat.{ℕ, _+_, _-_, _≤_}
 use mathlib.Core.Bool.{Bool, true, false, cond}
 use mathlib.Core.List.{List, [], _∷_, _++_}

@@ -1,4 +1,4 @@
--- Believed. "Order of the records": what may stand where, and how many lines a section has.
+-- Believed; `sectionStands` serves inner functions. "Order of the records": what may stand where, and how many lines a section has.
 use Prim.Native.Nat.{ℕ, _+_}
 use mathlib.Core.Bool.{Bool, true, false, cond}
 use mathlib.Core.List.{List, [], _∷_}

@@ -2,7 +2,7 @@
 use Prim.Native.Nat.{ℕ}
 use Rattle.order.specs.declared.Stage.{Stage}
 
--- the phases of a delega in the order of records, by what the last record was
+-- the phases in the order of records, by what the last record was
 abbrev pub atStart : ℕ
 atStart = 0
 

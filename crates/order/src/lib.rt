@@ -70,7 +70,7 @@ fn line_stands(p: Stage, s: usize) -> bool
 }
 
 // Whether a record of kind k may stand here, the most lines left aside.
-pub fn may_stand(p: Stage, k: Kind) -> bool
+fn may_stand(p: Stage, k: Kind) -> bool
     ensures { λ r. ⌜ r ≡ stands p k ⌝ }
 {
     let phase = p.phase;
@@ -141,7 +141,7 @@ fn fifty_stands(p: Stage) -> bool
 }
 
 // Whether a record that may stand here has type t.
-pub fn type_stands(p: Stage, t: RecordType) -> bool
+fn type_stands(p: Stage, t: RecordType) -> bool
     ensures { λ r. ⌜ r ≡ typeStands p t ⌝ }
 {
     match t {

@@ -1,4 +1,4 @@
--- Believed down to `allFit`; what follows is for theorems. Rebalancing: every stored field of every record is written anew from the lines, and nothing else is touched.
+-- Believed down to `flat`; what follows is for theorems. Rebalancing: every stored field of every record is written anew from the lines, and nothing else is touched.
 use Prim.Native.Nat.{ℕ, _+_, _-_, _^_}
 use mathlib.Core.Path.{_≡_}
 use mathlib.Core.Bool.{Bool, true, false, cond}
@@ -67,6 +67,11 @@ unfoldable pub allFit : State → List (List ℕ) → Bool
 allFit st [] = true
 allFit st (r ∷ rs) = cond (fitsAll (storedOf st (kindIn r))) (allFit (next st r) rs) false
 
+-- The bytes of a flow are those of its records, one after the other.
+unfoldable pub flat : List (List ℕ) → List ℕ
+flat [] = []
+flat (r ∷ rs) = r ++ flat rs
+
 -- The n bytes from index m on lie outside every one of these stored fields.
 unfoldable pub clear : ℕ → ℕ → List Stored → Bool
 clear m n [] = true
@@ -96,11 +101,6 @@ keptFault name st r =
 abbrev pub Sized : List (List ℕ) → Type 0
 Sized [] = Unit {0}
 Sized (r ∷ rs) = (length r ≡ 120) × Sized rs
-
--- The bytes of a flow are those of its records, one after the other.
-unfoldable pub flat : List (List ℕ) → List ℕ
-flat [] = []
-flat (r ∷ rs) = r ++ flat rs
 
 -- Rebalancing mends records of 120 bytes that pass every check it leaves alone, where what it writes fits, up to and with the tail.
 abbrev pub Mendable : List ℕ → State → List (List ℕ) → Type 0

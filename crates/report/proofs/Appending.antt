@@ -10,17 +10,12 @@ use Rattle.text.specs.Numbers.{digitsOf}
 use Rattle.text.specs.Placing.{putAt, numberBytes}
 use Rattle.text.proofs.Fits.{number-fits, number-written}
 use Rattle.text.proofs.Numerals.{length-digits}
-use Rattle.text.proofs.Puts.{length-put, put-here, put-after}
+use Rattle.text.proofs.Puts.{length-put, put-here, put-after, put-is}
 use Rattle.judge.specs.declared.Judgement.{Judgement}
 use Rattle.judge.specs.declared.Verdict.the-variants.{Accepted, Refused}
 use Rattle.report.specs.Printed.{widthOf, decimal, acceptedText, refusedText, judgementText, printedBytes, printedSize, Printed}
 use Rattle.report.specs.Appended.{Appended}
 use Rattle.report.proofs.Widths.{width-twenty, width-enough}
-
--- The parts of which a put is made.
-put-is : (s : ℕ) (bs r : List ℕ) → putAt s bs r ≡ take s r ++ (bs ++ drop (s + length bs) r)
-unfolding putAt
-put-is s bs r = refl
 
 module _ (s : ℕ) (xs ys r : List ℕ) (h : s + length xs ≤ length r) where
   -- What stands up to the end of a put is what stood before it, and the bytes that were put.

@@ -87,7 +87,7 @@ unfolding putAt
 put-left s bs x y h = rw (take-append-le s x y (omega arith), drop-append-le (s + length bs) x y h) (simp append-assoc)
 
 -- The parts of which a put is made.
-put-is : (s : ℕ) (bs r : List ℕ) → putAt s bs r ≡ take s r ++ (bs ++ drop (s + length bs) r)
+pub put-is : (s : ℕ) (bs r : List ℕ) → putAt s bs r ≡ take s r ++ (bs ++ drop (s + length bs) r)
 unfolding putAt
 put-is s bs r = refl
 

@@ -1,4 +1,4 @@
--- Believed. The characters that a record may hold, and the first byte of a part that is none of them.
+-- Believed; `isAllowed` and `allAllowed` serve inner functions. The characters that a record may hold, and the first byte of a part that is none of them.
 use Prim.Native.Nat.{ℕ, _+_}
 use mathlib.Core.List.{List, [], _∷_}
 use mathlib.Core.Bool.{Bool, true, false, cond}

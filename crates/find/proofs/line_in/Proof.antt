@@ -1,4 +1,4 @@
--- `find::line_in` meets its contract. The loop's invariant: what is sought in the whole flow, the records that are left give from the place, the delega and
+-- `find::line_in` meets its contract. The loop's invariant: what is sought in the whole flow, the records that are left give from the stage, the delega and
 -- the count that the records before them led to. The measure is the number of records left.
 use Rattle.find.proofs.Search.{Searching, search-starts, search-ends, search-finds, search-on}
 use lib.ListN.{length, drop, length-take, length-drop}

@@ -1,4 +1,4 @@
-use Rattle.judge.proofs.Turn.{judged-long, judged-empty, judged-ragged, judged-whole, ready-start}
+use Rattle.judge.proofs.Turn.{judged-long, judged-empty, judged-ragged, judged-from-start, ready-start}
 use mathlib.Core.Path.{_≡_, refl, sym, ap, _∙_}
 use borrow.Author.Needs.{needs}
 use Rattle.judge.proofs.judge.Statement.{statement}
@@ -29,7 +29,7 @@ judge-from-requires : tie.Need-judge-from-requires
 judge-from-requires c κs = rw (c .start .ensures) (ready-start _ (c .before .before .before .if1 .left) (c .before .before .if2 .left) (c .before .if3 .left))
 
 returns-4 : tie.Need-returns-4
-returns-4 c = rw (c .judge-from .ensures, c .before .start .ensures) (sym (judged-whole _ (c .before .before .before .before .if1 .left) (c .before .before .before .if2 .left) (c .before .before .if3 .left)))
+returns-4 c = rw (c .judge-from .ensures, c .before .start .ensures) (sym (judged-from-start _ (c .before .before .before .before .if1 .left) (c .before .before .before .if2 .left) (c .before .before .if3 .left)))
 
 pub judge-spec : {M : Type 1} → statement M
 judge-spec =
