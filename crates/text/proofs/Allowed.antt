@@ -1,12 +1,13 @@
 -- Laws of the characters of a part: which parts are allowed, and what a turn of the loops over its bytes says.
-use Prim.Native.Nat.{ℕ, zero, suc, _+_, _/_, _%_, _<_, _≤_}
-use mathlib.Core.Path.{_≡_, refl}
-use mathlib.Core.Bool.{Bool, true, false, cond, not, _||_}
+use Prim.Native.Nat.{ℕ, zero, suc, _+_, _-_, _/_, _%_, _<_, _≤_}
+use mathlib.Core.Path.{_≡_, refl, sym, ap, _∙_}
+use mathlib.Core.Bool.{Bool, true, false, cond, false≢true}
 use mathlib.Core.List.{List, [], _∷_, _++_}
 use native.Mathlib.Omega.{arith}
+use native.Mathlib.Nat.{add-zero, add-suc}
 use borrow.Author.Tests.{lt-ltb, le-ltb}
-use lib.Dec.{ltb}
 use lib.ListN.{length, take, drop, getD, drop-of-length-le}
+use lib.Seq.{take-add, take-take, take-nil, take-length}
 use Rattle.text.specs.declared.Characters.{Characters}
 use Rattle.text.specs.declared.Characters.the-variants.{Allowed, BadAt}
 use Rattle.text.specs.Characters.{allowed, firstBadFrom, firstBad, isAllowed, allAllowed}
@@ -104,29 +105,10 @@ module _ (l : List ℕ) (i : ℕ) (h : i < length l) where
   unfolding firstBadFrom
   bad-on t u = rw (drop-one l i h, le-ltb _ _ t, le-ltb _ _ u)
 
-  -- A turn of the pass without an exit: no byte was bad before it and what is left is allowed, and so after it.
-  pub all-on : (bad : Bool) → cond bad false (isAllowed (firstBadFrom i (drop i l))) ≡ cond ((bad || ltb (getD l i 0) 32) || ltb 126 (getD l i 0)) false (isAllowed (firstBadFrom (i + 1) (drop (i + 1) l)))
-  unfolding firstBadFrom
-  all-on bad = rw (drop-one l i h) (go bad (ltb (getD l i 0) 32) (ltb 126 (getD l i 0)))
-    where
-      go : (s t u : Bool) → cond s false (isAllowed (cond (cond t false (cond u false true)) (firstBadFrom (i + 1) (drop (i + 1) l)) (BadAt i))) ≡ cond ((s || t) || u) false (isAllowed (firstBadFrom (i + 1) (drop (i + 1) l)))
-      go true t u = refl
-      go false true u = refl
-      go false false true = refl
-      go false false false = refl
-
 -- Where no byte is left, none is bad.
 pub bad-end : (l : List ℕ) (i : ℕ) → length l ≤ i → firstBadFrom i (drop i l) ≡ Allowed
 unfolding firstBadFrom
 bad-end l i h = rw (drop-of-length-le l h)
-
--- Where no byte is left, all are allowed if none was bad.
-pub all-end : (l : List ℕ) (i : ℕ) → length l ≤ i → (bad : Bool) → cond bad false (isAllowed (firstBadFrom i (drop i l))) ≡ not bad
-all-end l i h bad = rw (bad-end l i h) (go bad)
-  where
-    go : (t : Bool) → cond t false true ≡ not t
-    go true = refl
-    go false = refl
 
 -- A part of which every byte is a character is allowed.
 pub all-is-allowed : (l : List ℕ) → allAllowed l ≡ true → firstBad l ≡ Allowed
@@ -136,3 +118,70 @@ all-is-allowed l e = go (firstBad l) e
     go : (x : Characters) → isAllowed x ≡ true → x ≡ Allowed
     go Allowed f = refl
     go (BadAt i) f = let z : _≡_ {A = ℕ} 0 1 = cc in absurd (omega arith)
+
+-- A part that is not allowed has a first byte that is no character.
+pub record Bad (l : List ℕ) : Type 0 where
+  pub place : ℕ
+  pub there : firstBad l ≡ BadAt place
+
+-- A part of which not every byte is a character has a first one that is none.
+pub not-allowed : (l : List ℕ) → allAllowed l ≡ false → Bad l
+unfolding allAllowed
+not-allowed l e = go (firstBad l) refl e
+  where
+    go : (x : Characters) → firstBad l ≡ x → isAllowed x ≡ false → Bad l
+    go Allowed f g = absurd (false≢true (sym g))
+    go (BadAt i) f g = record { place = i; there = f }
+
+-- Whether bytes are allowed does not depend on where they stand.
+allowed-anywhere : (l : List ℕ) (i j : ℕ) → isAllowed (firstBadFrom i l) ≡ isAllowed (firstBadFrom j l)
+unfolding firstBadFrom
+allowed-anywhere [] i j = refl
+allowed-anywhere (b ∷ bs) i j = go (allowed b) (allowed-anywhere bs (i + 1) (j + 1))
+  where
+    go : (t : Bool) → isAllowed (firstBadFrom (i + 1) bs) ≡ isAllowed (firstBadFrom (j + 1) bs) → isAllowed (cond t (firstBadFrom (i + 1) bs) (BadAt i)) ≡ isAllowed (cond t (firstBadFrom (j + 1) bs) (BadAt j))
+    go true e = e
+    go false e = refl
+
+-- The same as `all-append`, where i bytes stand before the first part.
+all-append-from : (xs ys : List ℕ) (i : ℕ) → isAllowed (firstBadFrom i (xs ++ ys)) ≡ cond (isAllowed (firstBadFrom i xs)) (isAllowed (firstBadFrom 0 ys)) false
+unfolding firstBadFrom
+all-append-from [] ys i = allowed-anywhere ys i 0
+all-append-from (b ∷ bs) ys i = go (allowed b) (all-append-from bs ys (i + 1))
+  where
+    go : (t : Bool) → isAllowed (firstBadFrom (i + 1) (bs ++ ys)) ≡ cond (isAllowed (firstBadFrom (i + 1) bs)) (isAllowed (firstBadFrom 0 ys)) false → isAllowed (cond t (firstBadFrom (i + 1) (bs ++ ys)) (BadAt i)) ≡ cond (isAllowed (cond t (firstBadFrom (i + 1) bs) (BadAt i))) (isAllowed (firstBadFrom 0 ys)) false
+    go true e = e
+    go false e = refl
+
+-- Two parts, one after the other, are allowed where both are.
+pub all-append : (xs ys : List ℕ) → allAllowed (xs ++ ys) ≡ cond (allAllowed xs) (allAllowed ys) false
+unfolding allAllowed
+all-append xs ys = all-append-from xs ys 0
+
+-- Of a list that is cut in two, the whole is allowed where both are.
+pub all-cut : (l : List ℕ) (a b : ℕ) → allAllowed (take (a + b) l) ≡ cond (allAllowed (take a l)) (allAllowed (take b (drop a l))) false
+all-cut l a b = ap allAllowed (take-add a b l) ∙ all-append (take a l) (take b (drop a l))
+
+-- A part is allowed where its front is, and the rest behind it.
+pub all-rest : (l : List ℕ) (n : ℕ) → n ≤ length l → allAllowed l ≡ cond (allAllowed (take n l)) (allAllowed (take (length l - n) (drop n l))) false
+all-rest l n h =
+    let e : n + (length l - n) ≡ length l = omega arith in
+    ap allAllowed (sym (ap (λ (k : ℕ). take k l) e ∙ take-length l)) ∙ all-cut l n (length l - n)
+
+-- An allowed front grows by an allowed part behind it.
+pub allowed-more : (s : List ℕ) (a b : ℕ) → allAllowed (take a s) ≡ true → allAllowed (take b (drop a s)) ≡ true → allAllowed (take (a + b) s) ≡ true
+allowed-more s a b p q = rw (all-cut s a b, p, q)
+
+-- What a front has behind its first i bytes.
+drop-take : (i n : ℕ) (l : List ℕ) → drop i (take (n + i) l) ≡ take n (drop i l)
+drop-take zero n l = ap (λ (k : ℕ). take k l) (add-zero n)
+drop-take (suc i) n [] = rw add-suc (sym (take-nil n))
+drop-take (suc i) n (b ∷ bs) = rw add-suc (drop-take i n bs)
+
+-- A part of an allowed front is allowed.
+pub allowed-part : (s : List ℕ) (m i w : ℕ) → allAllowed (take m s) ≡ true → i + w ≤ m → firstBad (take w (drop i s)) ≡ Allowed
+allowed-part s m i w e h =
+    let p : m - i + i ≡ m = omega arith in
+    let f : firstBad (take (m - i + i) s) ≡ Allowed = rw p (all-is-allowed (take m s) e) in
+    let g : firstBad (take (m - i) (drop i s)) ≡ Allowed = rw (← (drop-take i (m - i) s)) (allowed-drop i (take (m - i + i) s) 0 f) in
+    rw (← (take-take w (m - i) (drop i s) (omega arith))) (allowed-take w (take (m - i) (drop i s)) 0 g)

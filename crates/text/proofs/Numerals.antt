@@ -69,7 +69,7 @@ pub number-below : (w : ℕ) (l : List ℕ) → length l ≡ w → amountOf (num
 number-below w l e = rw (← e) (omega (arith, below-from l 0 0))
 
 -- A list that says a number begins with a digit, and what follows it says the number too.
-number-parts : (b : ℕ) (bs : List ℕ) (i a v : ℕ) → numberFrom i a (b ∷ bs) ≡ Number v → (digit b ≡ true) × (numberFrom (i + 1) (a * 10 + (b - 48)) bs ≡ Number v)
+pub number-parts : (b : ℕ) (bs : List ℕ) (i a v : ℕ) → numberFrom i a (b ∷ bs) ≡ Number v → (digit b ≡ true) × (numberFrom (i + 1) (a * 10 + (b - 48)) bs ≡ Number v)
 unfolding numberFrom
 number-parts b bs i a v e = go (digit b) e
   where

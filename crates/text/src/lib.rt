@@ -1,12 +1,18 @@
 // The text of a CBI F24 flow: which bytes are characters, what the digits of a field say, and how a part or a number is put into a
 // record. A record has 120 characters, and an amount has fifteen digits.
+mod words;
+
 ghost use mathlib.Core.Path.{_≡_};
-ghost use Prim.Native.Nat.{_+_, _^_, _≤_};
+ghost use Prim.Native.Nat.{_+_, _*_, _^_, _≤_, min, max};
 ghost use lib.Dec.{ltb};
-ghost use lib.ListN.{length};
+ghost use lib.ListN.{length, take};
 ghost use Rattle.text.specs.Characters.{firstBad, allAllowed};
 ghost use Rattle.text.specs.Numbers.{readNumber, digitsOf};
 ghost use Rattle.text.specs.Placing.{putAt, partFits, numberFits, partAnswer, partBytes, numberAnswer, numberBytes};
+pub use words::amount_at;
+pub use words::number_word;
+pub use words::pair_at;
+pub use words::word_at;
 
 pub enum Characters {
     Allowed,
@@ -19,23 +25,90 @@ pub enum Digits {
     TooLong,
 }
 
+// What fifteen characters say: an amount, or nothing where one of them is no digit.
+pub enum Fifteen {
+    Amount(u64),
+    NonDigit,
+}
+
 pub enum Put {
     Written,
     Unfit,
 }
 
-// The loop has no early exit, so that the compiler can test many bytes of a record at once.
+fn lesser(a: u8, b: u8) -> u8
+    ensures { λ r. ⌜ r ≡ min a b ⌝ }
+{
+    if a < b { a } else { b }
+}
+
+fn greater(a: u8, b: u8) -> u8
+    ensures { λ r. ⌜ r ≡ max a b ⌝ }
+{
+    if a < b { b } else { a }
+}
+
+// The least and the greatest byte say whether all are allowed. The loop has no early exit and no test, so that the compiler takes many bytes at once.
 fn all_allowed(part: &[u8]) -> bool
     ensures { λ r. ⌜ r ≡ allAllowed (now (part .entry)) ⌝ }
 {
-    let mut bad = false;
+    let mut least: u8 = 126;
+    let mut most: u8 = 32;
     let mut i: usize = 0;
     while i < part.len() {
         let b = part[i];
-        bad = bad | (b < 32) | (126 < b);
+        least = lesser(b, least);
+        most = greater(b, most);
         i += 1;
     }
-    !bad
+    if least < 32 {
+        return false;
+    }
+    most <= 126
+}
+
+// The same of four quarters side by side, so that a turn takes four times as many bytes.
+fn quarters_allowed(part: &[u8], quarter: usize) -> bool
+    requires { ⌜ quarter * 4 ≤ length (now part) ⌝ }
+    ensures { λ r. ⌜ r ≡ allAllowed (take (quarter * 4) (now (part .entry))) ⌝ }
+{
+    let a = &part[..quarter];
+    let b = &part[quarter..quarter * 2];
+    let c = &part[quarter * 2..quarter * 3];
+    let d = &part[quarter * 3..quarter * 4];
+    let mut least: u8 = 126;
+    let mut most: u8 = 32;
+    let mut i: usize = 0;
+    while i < quarter {
+        let w = a[i];
+        let x = b[i];
+        let y = c[i];
+        let z = d[i];
+        least = lesser(w, least);
+        most = greater(w, most);
+        least = lesser(x, least);
+        most = greater(x, most);
+        least = lesser(y, least);
+        most = greater(y, most);
+        least = lesser(z, least);
+        most = greater(z, most);
+        i += 1;
+    }
+    if least < 32 {
+        return false;
+    }
+    most <= 126
+}
+
+// The same as `all_allowed`, for a long part: its four quarters, and what is left behind them.
+pub fn long_allowed(part: &[u8]) -> bool
+    ensures { λ r. ⌜ r ≡ allAllowed (now (part .entry)) ⌝ }
+{
+    let quarter = part.len() / 4;
+    if quarters_allowed(part, quarter) {
+        return all_allowed(&part[quarter * 4..]);
+    }
+    false
 }
 
 // A part that is not allowed is searched, so that the offset of its first bad byte can be told.

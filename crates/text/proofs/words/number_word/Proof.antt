@@ -1,0 +1,32 @@
+-- `text::words::number_word` meets its contract by the law of the same name.
+use mathlib.Core.Path.{sym}
+use borrow.Author.Needs.{needs}
+use Rattle.text.proofs.Fields.{number-word}
+use Rattle.text.proofs.words.number_word.Statement.{statement}
+use Rattle.text.proofs.words.number_word.Tie as tie
+
+mul-result : tie.Need-mul-result
+mul-result c = search needs
+
+add-result : tie.Need-add-result
+add-result c = search needs
+
+mul-result-2 : tie.Need-mul-result-2
+mul-result-2 c = search needs
+
+add-result-2 : tie.Need-add-result-2
+add-result-2 c = search needs
+
+mul-result-3 : tie.Need-mul-result-3
+mul-result-3 c = search needs
+
+add-result-3 : tie.Need-add-result-3
+add-result-3 c = search needs
+
+returns : tie.Need-returns
+returns c = sym (number-word (c .args .n) (c .pre))
+
+pub number-word-spec : {M : Type 1} → statement M
+number-word-spec =
+    tie.close
+    (tie.spec mul-result add-result mul-result-2 add-result-2 mul-result-3 add-result-3 returns)
