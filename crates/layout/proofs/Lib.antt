@@ -1,3 +1,5 @@
 pub mod Table
 pub mod Within
 pub mod OtherKinds
+pub mod Spelled
+pub mod Amounts

@@ -10,15 +10,15 @@ use borrow.Author.Tests.{eq-eqb}
 use Rattle.layout.specs.declared.Section.{Section}
 use Rattle.layout.specs.Sections.{sections, noSection, sectionAt}
 
-abbrev both : Bool → Bool → Bool
+abbrev pub both : Bool → Bool → Bool
 both true b = b
 both false b = false
 
-both-left : (a b : Bool) → T (both a b) → T a
+pub both-left : (a b : Bool) → T (both a b) → T a
 both-left true b t = tt
 both-left false b t = t
 
-both-right : (a b : Bool) → T (both a b) → T b
+pub both-right : (a b : Bool) → T (both a b) → T b
 both-right true b t = t
 both-right false b t = absurd t
 

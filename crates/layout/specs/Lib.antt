@@ -1,3 +1,4 @@
 pub mod Sections
 pub mod Kinds
 pub mod Fields
+pub mod Forms

@@ -1,6 +1,7 @@
 // The kinds of records of a flow, the five sections, and the columns of the numeric fields.
 // A column is written as document 01 and CBI-F24-001 count it, from 1, less 1: `29 - 1` is the index of position 29.
 mod columns;
+mod forms;
 mod kinds;
 
 ghost use mathlib.Core.Path.{_≡_};
@@ -11,6 +12,9 @@ pub use columns::TAIL_RECORDS;
 pub use columns::TAIL_SUM;
 pub use columns::amount_at;
 pub use columns::fields_of;
+pub use forms::form_in;
+pub use forms::is_numbered;
+pub use forms::type_by;
 pub use kinds::kind_of;
 pub use kinds::section_kind;
 pub use kinds::type_of;
@@ -236,4 +240,12 @@ pub struct Field {
 pub struct Fields {
     pub count: usize,
     pub fields: [Field; 4],
+}
+
+// How a record is read: its kind, how many amounts it has behind its first numeric field, and where the first of them starts. In a record of a delega
+// the second follows it at once, and the third after a sign.
+pub struct Form {
+    pub kind: Kind,
+    pub amounts: usize,
+    pub at: usize,
 }

@@ -1,4 +1,4 @@
--- Believed; `sectionStands` serves inner functions. "Order of the records": what may stand where, and how many lines a section has.
+-- Believed; `sectionStands` and `fitting` serve inner functions. "Order of the records": what may stand where, and how many lines a section has.
 use Prim.Native.Nat.{ℕ, _+_}
 use mathlib.Core.Bool.{Bool, true, false, cond}
 use mathlib.Core.List.{List, [], _∷_}
@@ -61,6 +61,10 @@ sectionStands p s = cond (stands p (Line s)) true (stands p (Balance s))
 -- 6, "line beyond the section's most"
 unfoldable pub full : Stage → Kind → Bool
 full p k = ofLine false (λ s. leb (sectionAt s .«most_lines») (p .lines)) k
+
+-- a record of kind k passes 4 and 6 here
+unfoldable pub fitting : Stage → Kind → Bool
+fitting p k = cond (stands p k) (cond (full p k) false true) false
 
 -- 4, "record may not stand here": position "2 if no record that may stand here has its type, else 11"; then 6 at 11
 unfoldable pub standing : Stage → RecordType → Kind → Outcome

@@ -3,7 +3,7 @@ ghost use mathlib.Core.Path.{_≡_};
 ghost use Prim.Native.Nat.{_<_};
 ghost use mathlib.Core.List.{[], _∷_};
 ghost use Rattle.order.specs.Stages.{stageAt};
-ghost use Rattle.order.specs.Order.{nextStage, among, stands, sectionStands, typeStands, full, standing};
+ghost use Rattle.order.specs.Order.{nextStage, among, stands, sectionStands, typeStands, full, fitting, standing};
 use amounts::Outcome;
 use layout::Kind;
 use layout::Position;
@@ -163,6 +163,16 @@ fn is_full(p: Stage, k: Kind) -> bool
     };
     let section = layout::section_at(s);
     section.most_lines <= p.lines
+}
+
+// Whether a record of kind k passes checks 4 and 6.
+pub fn fits(p: Stage, k: Kind) -> bool
+    ensures { λ r. ⌜ r ≡ fitting p k ⌝ }
+{
+    if may_stand(p, k) {
+        return !is_full(p, k);
+    }
+    false
 }
 
 // Checks 4 and 6.

@@ -73,7 +73,7 @@ lines-on n p Addressee h = omega arith
 lines-on n p Tail h = omega arith
 lines-on n p Unknown h = omega arith
 
-deleghe-on : (n d : ℕ) (k : Kind) → d ≤ n → nextDeleghe d k ≤ n + 1
+pub deleghe-on : (n d : ℕ) (k : Kind) → d ≤ n → nextDeleghe d k ≤ n + 1
 deleghe-on n d Head h = omega arith
 deleghe-on n d Taxpayer h = omega arith
 deleghe-on n d Domicile h = omega arith

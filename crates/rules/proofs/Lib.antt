@@ -1,3 +1,4 @@
 pub mod Arrays
 pub mod Reading
 pub mod Growth
+pub mod Numbers

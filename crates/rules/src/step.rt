@@ -36,14 +36,32 @@ fn plus(t: Sums, x: Sums) -> Sums
     }
 }
 
-// A line's amounts added to the sums of its section: one element changed.
+// A line's amounts added to the sums of its section: one element changed. The index is constant in each way out: an array that is changed at a
+// variable index is kept in memory and copied wherever a state goes.
 fn plus_at(sums: [Sums; 5], s: usize, x: Sums) -> [Sums; 5]
     requires { ⌜ SumsBelow 1_000_000_000_000_000_000 sums × Small x ⌝ }
     ensures { λ r. ⌜ r ≡ addedAt sums s x ⌝ }
 {
     let mut out = sums;
-    if s < 5 {
-        out[s] = plus(sums[s], x);
+    if s == 0 {
+        out[0] = plus(sums[0], x);
+        return out;
+    }
+    if s == 1 {
+        out[1] = plus(sums[1], x);
+        return out;
+    }
+    if s == 2 {
+        out[2] = plus(sums[2], x);
+        return out;
+    }
+    if s == 3 {
+        out[3] = plus(sums[3], x);
+        return out;
+    }
+    if s == 4 {
+        out[4] = plus(sums[4], x);
+        return out;
     }
     out
 }

@@ -133,8 +133,20 @@ pub fn section_sums(st: State, s: usize) -> Sums
 {
     let money = st.money;
     let delega = money.delega;
-    if s < 5 {
-        return delega.sections[s];
+    if s == 0 {
+        return delega.sections[0];
+    }
+    if s == 1 {
+        return delega.sections[1];
+    }
+    if s == 2 {
+        return delega.sections[2];
+    }
+    if s == 3 {
+        return delega.sections[3];
+    }
+    if s == 4 {
+        return delega.sections[4];
     }
     Sums {
         debit: 0,
