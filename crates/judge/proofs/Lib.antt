@@ -1,5 +1,8 @@
 pub mod Records
+mod FieldByField
 pub mod Turn
+mod QuickTurn
+mod WaysOut
 pub mod Accepted
 pub mod Counts
 pub mod PlainSums

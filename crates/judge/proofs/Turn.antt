@@ -59,6 +59,10 @@ module _ (name : List ℕ) (st : State) (r : List ℕ) where
       unfolding fault
       fault-fields d = rw (a, ← ek, b, d)
 
+      pub fault-number : {e p : ℕ} → badFields (fieldsOf k) r ≡ Pass → numberFault (st .deleghe) k (valueOf r delegaNumber) ≡ Fault e p → fault name st r ≡ Fault e p
+      unfolding fault
+      fault-number d f = rw (a, ← ek, b, d, f)
+
       pub fault-values : {o : Outcome} → badFields (fieldsOf k) r ≡ Pass → valuesOn name st k (valuesIn (fieldsOf k) r) r ≡ o → fault name st r ≡ o
       unfolding fault
       fault-values d f = rw (a, ← ek, b, d, ← (values-read name st k r), f)
@@ -83,15 +87,15 @@ module _ (fl : List Field) (r : List ℕ) (j : ℕ) (h : j < length fl) where
   unfolding badFields
   bad-here d e t = rw (drop-cons fl j nowhere h, ← e) (no-number d t (getD fl j nowhere) (badFields (drop (suc j) fl) r))
 
-  -- the values of the first j + 1 fields, in room for four
-  pub read-on : j < 4 → set (map (valueOf r) (take j fl) ++ replicate (4 - j) 0) j (valueOf r (getD fl j nowhere)) ≡ map (valueOf r) (take (j + 1) fl) ++ replicate (4 - (j + 1)) 0
-  read-on g =
+  -- the values of the first j + 1 fields, in room for n
+  pub read-on : (n : ℕ) → j < n → set (map (valueOf r) (take j fl) ++ replicate (n - j) 0) j (valueOf r (getD fl j nowhere)) ≡ map (valueOf r) (take (j + 1) fl) ++ replicate (n - (j + 1)) 0
+  read-on n g =
       let v = valueOf r (getD fl j nowhere) in
       let l : length (map (valueOf r) (take j fl)) ≡ j = length-map (take j fl) (valueOf r) ∙ length-take-le j fl (omega arith) in
-      ap (λ (m : ℕ). set (map (valueOf r) (take j fl) ++ replicate m 0) j v) (let e : 4 - j ≡ suc (4 - (j + 1)) = omega arith in e)
-      ∙ (set-at (map (valueOf r) (take j fl)) 0 (replicate (4 - (j + 1)) 0) v j l
-      ∙ (sym (append-assoc (map (valueOf r) (take j fl)) (v ∷ []) (replicate (4 - (j + 1)) 0))
-      ∙ ap (λ (t : List ℕ). t ++ replicate (4 - (j + 1)) 0) (sym (map-append (valueOf r) (take j fl) (getD fl j nowhere ∷ [])) ∙ ap (map (valueOf r)) (sym (ap (λ (m : ℕ). take m fl) (add-one j) ∙ take-suc fl j nowhere h)))))
+      ap (λ (m : ℕ). set (map (valueOf r) (take j fl) ++ replicate m 0) j v) (let e : n - j ≡ suc (n - (j + 1)) = omega arith in e)
+      ∙ (set-at (map (valueOf r) (take j fl)) 0 (replicate (n - (j + 1)) 0) v j l
+      ∙ (sym (append-assoc (map (valueOf r) (take j fl)) (v ∷ []) (replicate (n - (j + 1)) 0))
+      ∙ ap (λ (t : List ℕ). t ++ replicate (n - (j + 1)) 0) (sym (map-append (valueOf r) (take j fl) (getD fl j nowhere ∷ [])) ∙ ap (map (valueOf r)) (sym (ap (λ (m : ℕ). take m fl) (add-one j) ∙ take-suc fl j nowhere h)))))
 
 pub bad-end : (fl : List Field) (r : List ℕ) (j : ℕ) → length fl ≤ j → badFields (drop j fl) r ≡ Pass
 unfolding badFields

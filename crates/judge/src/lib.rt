@@ -2,15 +2,17 @@
 mod lines;
 
 ghost use mathlib.Core.Path.{_≡_};
-ghost use Prim.Native.Nat.{_+_, _<_, _≤_};
+ghost use Prim.Native.Nat.{_+_, _/_, _<_, _≤_};
 ghost use lib.ListN.{length, take, drop};
 ghost use Rattle.text.specs.Characters.{firstBad};
 ghost use Rattle.text.specs.Numbers.{numberOf};
 ghost use Rattle.layout.specs.Kinds.{typeIn, kindIn};
-ghost use Rattle.layout.specs.Fields.{bytesOf, Within};
-ghost use Rattle.rules.specs.Checks.{charFault};
+ghost use Rattle.layout.specs.Fields.{fieldsOf, bytesOf, Within};
+ghost use Rattle.order.specs.Order.{standing};
+ghost use Rattle.rules.specs.Checks.{charFault, badFields};
 ghost use Rattle.judge.specs.Part.{recordAt, recordStart, LiesAt};
-ghost use Rattle.judge.specs.Flow.{refusedWith, closing, headNameOf, restOf, judgedFrom, judged, Ready};
+ghost use Rattle.judge.specs.Flow.{refusedWith, closing, after, headNameOf, restOf, judgedFrom, judged, Ready};
+ghost use Rattle.judge.specs.Reading.{Clean, ending, valuesRead};
 use amounts::Outcome;
 use amounts::Sums;
 use layout::Field;
@@ -23,6 +25,7 @@ use order::Stage;
 use rules::State;
 use text::Characters;
 use text::Digits;
+use text::Fifteen;
 
 // The answer: accepted, or refused with document 01's number, the record counted from 1, and the position.
 pub enum Verdict {
@@ -122,7 +125,7 @@ fn type_in(rec: &[u8]) -> RecordType
     requires { ⌜ length (now rec) ≡ 120 ⌝ }
     ensures { λ r. ⌜ r ≡ typeIn (now (rec .entry)) ⌝ }
 {
-    layout::type_of(rec[Part::TYPE], rec[Part::TYPE + 1])
+    layout::type_by(text::pair_at(rec, Part::TYPE))
 }
 
 // The kind of a record.
@@ -146,6 +149,103 @@ fn read_field(rec: &[u8], field: Field) -> Digits
     text::number(&rec[start..end])
 }
 
+// How many records stand before the first, behind those seen, that has a byte outside 32 to 126; all of them where none has. Blocks of records are
+// tried, and a block that has such a byte is tried again by halves.
+fn clean_records(flow: &[u8], seen: usize) -> usize
+    requires { ⌜ seen ≤ length (now flow) / 120 ⌝ }
+    ensures { λ r. ⌜ Clean (now (flow .entry)) seen r ⌝ }
+{
+    let count = flow.len() / Flow::RECORD;
+    let mut k = seen;
+    let mut block: usize = 128;
+    while k < count {
+        if count - k < block {
+            block = count - k;
+        }
+        if text::long_allowed(&flow[k * Flow::RECORD..(k + block) * Flow::RECORD]) {
+            k += block;
+        } else {
+            if block == 1 {
+                return k;
+            }
+            block = block / 2;
+        }
+    }
+    count
+}
+
+// Behind the clean records: the closing where no record is left, else check 3 of the next one.
+fn ended(flow: &[u8], st: State, count: usize) -> Judgement
+    requires { ⌜ (count ≡ length (now flow) / 120) × (st .seen ≤ count) × (st .seen < 1000) ⌝ }
+    ensures { λ r. ⌜ r ≡ ending (now (flow .entry)) st ⌝ }
+{
+    let k = st.seen;
+    if k == count {
+        return closing_of(st);
+    }
+    match char_fault(record_at(flow, k * Flow::RECORD)) {
+        Outcome::Fault(number, position) => refused(number, k + 1, position),
+        Outcome::Pass => refused(5, k + 1, 0),
+    }
+}
+
+// The refusal of a record that may not stand where it does.
+fn misplaced(stage: Stage, rec: &[u8], kind: Kind, k: usize) -> Judgement
+    requires { ⌜ (length (now rec) ≡ 120) × (k < 1000) ⌝ }
+    ensures { λ r. ⌜ r ≡ after (standing stage (typeIn (now (rec .entry))) kind) k (refusedWith 4 (k + 1) 2) ⌝ }
+{
+    match order::standing_of(stage, type_in(rec), kind) {
+        Outcome::Fault(number, position) => refused(number, k + 1, position),
+        Outcome::Pass => refused(4, k + 1, 2),
+    }
+}
+
+// The refusal of a record with a field that holds something else than digits, or else with another number than its delega's.
+fn misread(rec: &[u8], kind: Kind, k: usize) -> Judgement
+    requires { ⌜ (length (now rec) ≡ 120) × (k < 1000) ⌝ }
+    ensures { λ r. ⌜ r ≡ after (badFields (fieldsOf kind) (now (rec .entry))) k (refusedWith 8 (k + 1) 4) ⌝ }
+{
+    let fields = layout::fields_of(kind);
+    let list = fields.fields;
+    let mut f: usize = 0;
+    while f < fields.count {
+        let field = list[f];
+        let Digits::Number(_) = read_field(rec, field) else {
+            return refused(7, k + 1, field.start + 1);
+        };
+        f += 1;
+    }
+    refused(8, k + 1, 4)
+}
+
+// What the numeric fields of a record say, or the position of the first that holds something else than digits.
+struct Values {
+    bad: usize,
+    values: [u64; 4],
+}
+
+fn values_in(rec: &[u8], kind: Kind) -> Values
+    requires { ⌜ length (now rec) ≡ 120 ⌝ }
+    ensures { λ r. ⌜ r ≡ valuesRead (fieldsOf kind) (now (rec .entry)) ⌝ }
+{
+    let fields = layout::fields_of(kind);
+    let list = fields.fields;
+    let mut values = [0u64; 4];
+    let mut f: usize = 0;
+    while f < fields.count {
+        let field = list[f];
+        let Digits::Number(v) = read_field(rec, field) else {
+            return Values {
+                bad: field.start + 1,
+                values: [0u64; 4],
+            };
+        };
+        values[f] = v;
+        f += 1;
+    }
+    Values { bad: 0, values }
+}
+
 // The judgement of the records that are left, after those that led to a state.
 fn judge_from(flow: &[u8], start: State) -> Judgement
     requires { ⌜ Ready (now flow) start ⌝ }
@@ -153,33 +253,48 @@ fn judge_from(flow: &[u8], start: State) -> Judgement
 {
     let count = flow.len() / Flow::RECORD;
     let name = &flow[Part::SUPPORT_NAME..Part::SUPPORT_NAME_END];
+    let clean = clean_records(flow, start.seen);
     let mut st = start;
+    let mut number = text::number_word(st.deleghe);
     'records: loop {
         let k = st.seen;
-        if k == count {
-            break 'records closing_of(st);
+        if k == clean {
+            break 'records ended(flow, st, count);
         }
         let rec = record_at(flow, k * Flow::RECORD);
-        if let Outcome::Fault(number, position) = char_fault(rec) {
-            break 'records refused(number, k + 1, position);
-        }
-        let kind = kind_in(rec);
+        let form = layout::form_in(rec);
+        let kind = form.kind;
         let stage = st.stage;
-        if let Outcome::Fault(number, position) = order::standing_of(stage, type_in(rec), kind) {
-            break 'records refused(number, k + 1, position);
+        if !order::fits(stage, kind) {
+            break 'records misplaced(stage, rec, kind, k);
         }
-        let fields = layout::fields_of(kind);
-        let list = fields.fields;
-        let last = fields.count;
         let mut values = [0u64; 4];
-        let mut f: usize = 0;
-        while f < last {
-            let field = list[f];
-            let Digits::Number(v) = read_field(rec, field) else {
-                break 'records refused(7, k + 1, field.start + 1);
-            };
-            values[f] = v;
-            f += 1;
+        if layout::is_numbered(kind) {
+            let d = rules::next_deleghe(st.deleghe, kind);
+            if let Kind::Taxpayer = kind {
+                number = text::number_word(d);
+            }
+            values[0] = d;
+            let last = form.amounts;
+            let mut at = form.at;
+            let mut f: usize = 0;
+            while f < last {
+                let Fifteen::Amount(v) = text::amount_at(rec, at) else {
+                    break 'records misread(rec, kind, k);
+                };
+                values[f + 1] = v;
+                at += 15 + f;
+                f += 1;
+            }
+            if text::word_at(rec, 2) != number {
+                break 'records misread(rec, kind, k);
+            }
+        } else {
+            let read = values_in(rec, kind);
+            if read.bad != 0 {
+                break 'records refused(7, k + 1, read.bad);
+            }
+            values = read.values;
         }
         if let Outcome::Fault(number, position) = rules::values_fault(st, name, kind, rec, values) {
             break 'records refused(number, k + 1, position);

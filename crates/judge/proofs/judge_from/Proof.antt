@@ -1,50 +1,71 @@
-use Rattle.judge.proofs.Turn.{Going, going-end, going-refuses, going-on, fault-chars, fault-standing, fault-fields, fault-values, bad-on, bad-here, bad-end, read-on, read-end, pair-small}
-use Rattle.judge.specs.Flow.{refusedWith, judgedFrom, restOf, headNameOf}
-use Rattle.rules.proofs.Growth.{money-room}
-use Rattle.rules.specs.Values.{valuesIn}
-use Rattle.rules.specs.Checks.{charFault, badFields, fault}
-use Rattle.order.specs.Order.{standing}
+use Rattle.judge.proofs.Turn.{Going, going-refuses, going-on, fault-values, bad-on, bad-here, bad-end, read-on, read-end, pair-small}
+use Rattle.judge.proofs.QuickTurn.{behind, behind-length, behind-three, behind-first, behind-amount, behind-within, behind-next, number-then, values-then, amount-none, amount-bad, number-same, number-other, unnumbered-next}
+use Rattle.judge.proofs.WaysOut.{values-good, values-bad, out-ended, out-misplaced, out-bad, out-misread}
+use Rattle.judge.specs.Flow.{refusedWith, after, judgedFrom, restOf, headNameOf}
+use Rattle.judge.specs.Reading.{Clean, valuesRead}
+use Rattle.judge.specs.declared.Values.{Values}
+use Rattle.rules.proofs.Growth.{money-room, deleghe-on}
+use Rattle.rules.specs.Values.{valuesIn, valuesOn}
+use Rattle.rules.specs.Step.{nextDeleghe, nextOf}
+use Rattle.rules.proofs.Reading.{pairOf}
+use Rattle.rules.specs.Checks.{charFault, badFields, numberFault, fault}
+use Rattle.order.specs.Order.{fitting, standing}
+use Rattle.order.proofs.Fitting.{fits-passes}
 use Rattle.rules.specs.declared.State.{State}
 use Rattle.amounts.specs.declared.Outcome.the-variants.{Pass, Fault}
-use Rattle.layout.proofs.Within.{fields-within, fields-four, listed-at}
-use Rattle.layout.specs.Fields.{Within, nowhere, listed, fieldsOf, bytesOf, valueOf}
-use Rattle.layout.specs.Kinds.{typeIn}
-use Rattle.layout.specs.declared.Fields.{Fields}
+use Rattle.layout.specs.Fields.{nowhere, amountAt, delegaNumber, fieldsOf, bytesOf, valueOf}
+use Rattle.layout.specs.Forms.{numbered, formOf}
+use Rattle.layout.specs.Kinds.{typeIn, kindIn, ofTaxpayer}
 use Rattle.layout.specs.declared.Field.{Field}
+use Rattle.layout.specs.declared.Form.{Form}
 use Rattle.layout.specs.declared.Kind.{Kind}
-use Rattle.text.specs.Numbers.{numberOf, amountOf}
-use Rattle.text.specs.Characters.{firstBad}
-use lib.ListN.{length, take, drop, getD, replicate, length-take, length-drop}
+use Rattle.layout.proofs.OtherKinds.{no-taxpayer}
+use Rattle.text.specs.Numbers.{numberOf, amountOf, digitsOf}
+use Rattle.text.specs.Words.{word, fifteenOf}
+use Rattle.text.specs.Characters.{firstBad, allAllowed}
+use Rattle.text.specs.declared.Characters.the-variants.{Allowed}
+use Rattle.text.specs.declared.Digits.the-variants.{Number}
+use Rattle.text.proofs.Allowed.{allowed-part}
+use Rattle.text.proofs.FifteenDigits.{amount-number}
+use lib.ListN.{length, take, drop, getD, set, replicate, length-take, length-drop}
+use lib.Seq.{drop-drop, take-all}
 use borrow.Author.Needs.{needs}
-use mathlib.Core.List.{List, _++_, map}
-use Prim.Native.Nat.{ℕ, _+_, _-_, _*_, _/_, _<_, _≤_}
+use mathlib.Core.Bool.{Bool, true, false, not}
+use mathlib.Core.List.{List, _∷_, _++_, map}
+use mathlib.Core.Logic.{⊎-elim}
+use Prim.Native.Nat.{ℕ, suc, _+_, _-_, _*_, _/_, _<_, _≤_}
+use native.Mathlib.Numerals.{add-one}
 use native.Mathlib.Omega.{arith}
 use mathlib.Core.Path.{_≡_, refl, sym, ap, _∙_}
 use Rattle.judge.proofs.judge_from.Statement.{statement}
 use Rattle.judge.proofs.judge_from.Tie as tie
 
 abbrev Inv-loop : tie.InvT-loop
-Inv-loop flow count name st k rec kind list last values₀ f₀ values f =
-    (f ≤ length (fieldsOf kind)) × (badFields (fieldsOf kind) rec ≡ badFields (drop f (fieldsOf kind)) rec) × (values ≡ map (valueOf rec) (take f (fieldsOf kind)) ++ replicate (4 - f) 0)
+Inv-loop flow count name clean st number k rec kind values₀ d last at₀ f₀ values at f =
+    (f ≤ length (drop 1 (fieldsOf (kindIn rec)))) × (badFields (drop 1 (fieldsOf (kindIn rec))) rec ≡ badFields (drop f (drop 1 (fieldsOf (kindIn rec)))) rec) × (values ≡ d ∷ (map (valueOf rec) (take f (drop 1 (fieldsOf (kindIn rec)))) ++ replicate (3 - f) 0)) × (f < length (drop 1 (fieldsOf (kindIn rec))) → at ≡ getD (drop 1 (fieldsOf (kindIn rec))) f nowhere .start)
 
 abbrev μ-loop : tie.MeasureT-loop
-μ-loop flow count name st k rec kind list last values₀ f₀ values f = length (fieldsOf kind) - f
+μ-loop flow count name clean st number k rec kind values₀ d last at₀ f₀ values at f = last - f
 
 abbrev Inv-records : tie.InvT-records
-Inv-records flow count name st₀ st = Going flow (judgedFrom (headNameOf flow) st₀ (restOf flow (st₀ .seen))) st
+Inv-records flow count name clean st₀ number₀ st number =
+    Going flow (judgedFrom (headNameOf flow) st₀ (restOf flow (st₀ .seen))) st × (st₀ .seen ≤ st .seen) × (st .seen ≤ clean) × (number ≡ word (digitsOf 8 (st .deleghe)))
 
 abbrev μ-records : tie.MeasureT-records
-μ-records flow count name st₀ st = count - st .seen
+μ-records flow count name clean st₀ number₀ st number = clean - st .seen
 
 -- the place after `record_at`: the flow, the state before the record, the record, and the judgement that is to be
 abbrev AtRec : Type 0
 AtRec = tie.After-record-at Inv-loop μ-loop Inv-records μ-records
 
+abbrev first-of : AtRec → tie.After-clean-records Inv-loop μ-loop Inv-records μ-records
+first-of c = c .before .before .before .before
+
 abbrev flow : AtRec → List ℕ
-flow c = c .before .before .before .before .before .args .flow .now
+flow c = first-of c .before .before .before .args .flow .now
 
 abbrev start : AtRec → State
-start c = c .before .before .before .before .before .args .start
+start c = first-of c .before .before .before .args .start
 
 abbrev st : AtRec → State
 st c = c .before .before .records .st
@@ -52,106 +73,257 @@ st c = c .before .before .records .st
 abbrev r : AtRec → List ℕ
 r c = c .record-at .result .now
 
+going : (c : AtRec) → Going (flow c) (judgedFrom (headNameOf (flow c)) (start c) (restOf (flow c) (start c .seen))) (st c)
+going c = c .before .before .records .inv .0
+
+cleared : (c : AtRec) → Clean (flow c) (start c .seen) (first-of c .clean-records .result)
+cleared c = first-of c .clean-records .ensures
+
+within-clean : (c : AtRec) → st c .seen < first-of c .clean-records .result
+within-clean c = let i = c .before .before .records .inv .2 in let n = c .before .if1 .left in omega arith
+
 more : (c : AtRec) → st c .seen < length (flow c) / 120
-more c = let g = c .before .before .records .inv .ahead in let n = c .before .if1 .left in omega arith
+more c = let w = within-clean c in let a = cleared c .ahead in omega arith
 
 small : (c : AtRec) → st c .seen < 546
-small c = omega (arith, more c, c .before .before .before .before .before .pre .short)
+small c = omega (arith, more c, first-of c .before .before .before .pre .short)
 
 whole : (c : AtRec) → length (r c) ≡ 120
 whole c =
     let m : st c .seen < length (flow c) / 120 = more c in
     rw (c .record-at .ensures) (omega (arith, length-take 120 (drop (st c .seen * 120) (flow c)), length-drop (st c .seen * 120) (flow c)))
 
-refuse : (c : AtRec) {e p : ℕ} → fault (headNameOf (flow c)) (st c) (r c) ≡ Fault e p → judgedFrom (headNameOf (flow c)) (start c) (restOf (flow c) (start c .seen)) ≡ refusedWith e (st c .seen + 1) p
-refuse c f = going-refuses (flow c) _ (st c) (c .before .before .records .inv) (more c) (r c) (c .record-at .ensures) f
+fine : (c : AtRec) → firstBad (r c) ≡ Allowed
+fine c =
+    let s = start c .seen in
+    let k = st c .seen in
+    let n = first-of c .clean-records .result in
+    let w = within-clean c in
+    let b = c .before .before .records .inv .1 in
+    let e : s * 120 + (k - s) * 120 ≡ k * 120 = omega arith in
+    let d : drop ((k - s) * 120) (drop (s * 120) (flow c)) ≡ drop (k * 120) (flow c) = drop-drop ((k - s) * 120) (s * 120) (flow c) ∙ ap (λ (i : ℕ). drop i (flow c)) e in
+    rw (c .record-at .ensures, ← d) (allowed-part (drop (s * 120) (flow c)) ((n - s) * 120) ((k - s) * 120) 120 (cleared c .clean) (omega arith))
 
--- the place after `kind_in`: the characters have passed
-abbrev AtKind : Type 0
-AtKind = tie.After-kind-in Inv-loop μ-loop Inv-records μ-records
+printed : (c : AtRec) → charFault (firstBad (r c)) ≡ Pass
+printed c = ap charFault (fine c)
 
-abbrev rec-of : AtKind → AtRec
-rec-of c = c .before .before .before .before
+-- the place where the record is known to stand rightly
+abbrev AtNumbered : Type 0
+AtNumbered = tie.After-is-numbered Inv-loop μ-loop Inv-records μ-records
 
-abbrev k : AtKind → Kind
-k c = c .kind-in .result
+abbrev formed : AtNumbered → tie.After-form-in Inv-loop μ-loop Inv-records μ-records
+formed c = c .before .before .before .before
 
-printed : (c : AtKind) → charFault (firstBad (r (rec-of c))) ≡ Pass
-printed c = sym (c .before .before .before .char-fault .ensures) ∙ c .before .enum-told .given .1
+abbrev rec-of : AtNumbered → AtRec
+rec-of c = formed c .before
 
--- the place before the loop over the fields: the record may stand here
-abbrev AtFields : Type 0
-AtFields = tie.After-list Inv-loop μ-loop Inv-records μ-records
+kind-is : (c : tie.After-form-in Inv-loop μ-loop Inv-records μ-records) → c .form-in .result .kind ≡ kindIn (r (c .before))
+unfolding formOf
+kind-is c = ap (λ (x : Form). x .kind) (c .form-in .ensures)
 
-abbrev kind-of : AtFields → AtKind
-kind-of c = c .before .before .before .before .before .before .before
+turned : (b : Bool) → not b ≡ true → b ≡ false
+turned true e = sym e
+turned false e = refl
 
-abbrev fl : AtFields → List Field
-fl c = fieldsOf (k (kind-of c))
+unturned : (b : Bool) → not b ≡ false → b ≡ true
+unturned true e = refl
+unturned false e = sym e
 
-stood : (c : AtFields) → standing (st (rec-of (kind-of c)) .stage) (typeIn (r (rec-of (kind-of c)))) (k (kind-of c)) ≡ Pass
-stood c = rw (← (c .before .before .before .before .before .type-in .ensures)) (sym (c .before .before .before .before .standing-of .ensures) ∙ c .before .before .enum-told2 .given .1)
+stood : (c : AtNumbered) → standing (st (rec-of c) .stage) (typeIn (r (rec-of c))) (kindIn (r (rec-of c))) ≡ Pass
+stood c = fits-passes _ _ _ (rw (← (kind-is (formed c))) (sym (c .before .before .fits2 .ensures) ∙ unturned (c .before .before .fits2 .result) (c .before .if2 .left)))
 
-listed-are : (c : AtFields) → c .before .fields-of .result ≡ listed (fl c)
-listed-are c = c .before .fields-of .ensures
+-- the record carries the number of a delega: the expected one, and its word
+abbrev AtNext : Type 0
+AtNext = tie.After-next-deleghe Inv-loop μ-loop Inv-records μ-records
 
--- within the loop over the fields
+abbrev num-of : AtNext → AtNumbered
+num-of c = c .before .before
+
+abbrev d-of : AtNext → ℕ
+d-of c = c .next-deleghe .result
+
+is-number : (c : AtNext) → numbered (kindIn (r (rec-of (num-of c)))) ≡ true
+is-number c = rw (← (kind-is (formed (num-of c)))) (sym (num-of c .is-numbered .ensures) ∙ c .before .if3 .taken)
+
+d-is : (c : AtNext) → d-of c ≡ nextDeleghe (st (rec-of (num-of c)) .deleghe) (kindIn (r (rec-of (num-of c))))
+d-is c = c .next-deleghe .ensures ∙ ap (nextDeleghe (st (rec-of (num-of c)) .deleghe)) (kind-is (formed (num-of c)))
+
+d-small : (c : AtNext) → d-of c < 1000
+d-small c =
+    let q = rec-of (num-of c) in
+    let b = going q .below .deleghe-below in
+    let e = d-is c in
+    omega (arith, deleghe-on (st q .seen) (st q .deleghe) (kindIn (r q)) b, small q)
+
+-- where its word is known, whether it was made anew or not
+abbrev AtWord : Type 0
+AtWord = tie.At-match-came Inv-loop μ-loop Inv-records μ-records
+
+word-is : (c : AtWord) → c .match .number ≡ word (digitsOf 8 (d-of (c .before)))
+word-is c =
+    ⊎-elim
+    (λ w. w .3 ∙ w .2 .ensures)
+    (λ w. w .1 ∙ (rec-of (num-of (c .before)) .before .before .records .inv .3 ∙ ap (λ (n : ℕ). word (digitsOf 8 n)) (sym (c .before .next-deleghe .ensures ∙ no-taxpayer (st (rec-of (num-of (c .before))) .deleghe) (st (rec-of (num-of (c .before))) .deleghe + 1) (formed (num-of (c .before)) .form-in .result .kind) (w .0 .keys2)))))
+    (c .match .came)
+
+-- within the loop over the amounts
+abbrev AtLoop : Type 0
+AtLoop = tie.At-loop Inv-loop μ-loop Inv-records μ-records
+
+abbrev next-of : AtLoop → AtNext
+next-of c = c .before .before
+
+abbrev rl : AtLoop → List ℕ
+rl c = r (rec-of (num-of (next-of c)))
+
+last-is : (c : AtLoop) → formed (num-of (next-of c)) .form-in .result .amounts ≡ length (drop 1 (fieldsOf (kindIn (rl c))))
+unfolding formOf
+last-is c = ap (λ (x : Form). x .amounts) (formed (num-of (next-of c)) .form-in .ensures) ∙ sym (behind-length (rl c) (is-number (next-of c)))
+
 abbrev InLoop : Type 0
 InLoop = tie.In-loop Inv-loop μ-loop Inv-records μ-records
 
-inside : (c : InLoop) → c .before .loop .f < length (fl (c .before .before))
-inside c = omega (arith, c .loop-test .taken, ap (λ (x : Fields). x .count) (listed-are (c .before .before)))
+abbrev f-of : InLoop → ℕ
+f-of c = c .before .loop .f
 
-four : (c : InLoop) → c .before .loop .f < 4
-four c = omega (arith, inside c, fields-four (k (kind-of (c .before .before))))
+ahead : (c : InLoop) → f-of c < length (drop 1 (fieldsOf (kindIn (rl (c .before)))))
+ahead c = let l = last-is (c .before) in let t = c .loop-test .taken in omega arith
 
--- after the field is taken from the list
-abbrev AtField : Type 0
-AtField = tie.After-field Inv-loop μ-loop Inv-records μ-records
+three : (c : InLoop) → f-of c < 3
+three c = omega (arith, ahead c, behind-three (rl (c .before)) (is-number (next-of (c .before))))
 
-abbrev fields-of : AtField → AtFields
-fields-of c = c .before .before .before
+at-is : (c : InLoop) → c .before .loop .at ≡ getD (drop 1 (fieldsOf (kindIn (rl (c .before))))) (f-of c) nowhere .start
+at-is c = c .before .loop .inv .3 (ahead c)
 
-abbrev field : AtField → Field
-field c = getD (fields-of c .before .fields-of .result .fields) (c .before .before .loop .f) nowhere
+at-within : (c : InLoop) → c .before .loop .at + 15 ≤ 120
+at-within c = let e = at-is c in omega (arith, behind-within (rl (c .before)) (is-number (next-of (c .before))) (f-of c) (ahead c))
 
-field-is : (c : AtField) → field c ≡ getD (fl (fields-of c)) (c .before .before .loop .f) nowhere
-field-is c = ap (λ (x : Fields). getD (x .fields) (c .before .before .loop .f) nowhere) (listed-are (fields-of c)) ∙ listed-at (fl (fields-of c)) (c .before .before .loop .f) (inside (c .before))
+-- after an amount is read
+abbrev AtAmount : Type 0
+AtAmount = tie.After-amount-at Inv-loop μ-loop Inv-records μ-records
 
-within : (c : AtField) → Within (field c)
-within c = rw (field-is c) (fields-within (k (kind-of (fields-of c))) (c .before .before .loop .f) (inside (c .before)))
+said : (c : AtAmount) → c .amount-at .result ≡ fifteenOf (numberOf (bytesOf (rl (c .before .before)) (getD (drop 1 (fieldsOf (kindIn (rl (c .before .before))))) (f-of (c .before)) nowhere)))
+said c =
+    let l = c .before .before in
+    let x = getD (drop 1 (fieldsOf (kindIn (rl l)))) (f-of (c .before)) nowhere in
+    let w : x .start + 15 - x .start ≡ 15 = omega arith in
+    c .amount-at .ensures
+    ∙ (ap (λ (i : ℕ). fifteenOf (numberOf (take 15 (drop i (rl l))))) (at-is (c .before))
+    ∙ (ap (λ (i : ℕ). fifteenOf (numberOf (take i (drop (x .start) (rl l))))) (sym w)
+    ∙ ap (λ (y : Field). fifteenOf (numberOf (bytesOf (rl l) y))) (sym (behind-amount (rl l) (is-number (next-of l)) (f-of (c .before)) (ahead (c .before))))))
 
--- after it is read
-abbrev AtRead : Type 0
-AtRead = tie.After-read-field Inv-loop μ-loop Inv-records μ-records
-
-read : (c : AtRead) → c .read-field .result ≡ numberOf (bytesOf (r (rec-of (kind-of (fields-of (c .before))))) (getD (fl (fields-of (c .before))) (c .before .before .before .loop .f) nowhere))
-read c = c .read-field .ensures ∙ ap (λ (x : Field). numberOf (bytesOf (r (rec-of (kind-of (fields-of (c .before))))) x)) (field-is (c .before))
-
--- after the loop over the fields: all are numbers
+-- all amounts are read
 abbrev Past : Type 0
 Past = tie.After-loop Inv-loop μ-loop Inv-records μ-records
 
-abbrev past-rec : Past → AtRec
-past-rec c = rec-of (kind-of (c .before .before))
+all-read : (c : Past) → length (drop 1 (fieldsOf (kindIn (rl (c .before))))) ≡ c .before .loop .f
+all-read c = let i = c .before .loop .inv .0 in let l = last-is (c .before) in let t = c .loop-test .left in omega arith
 
-all-read : (c : Past) → length (fl (c .before .before)) ≡ c .before .loop .f
-all-read c = let i = c .before .loop .inv .0 in omega (arith, c .loop-test .left, ap (λ (x : Fields). x .count) (listed-are (c .before .before)))
+numbers-behind : (c : Past) → badFields (drop 1 (fieldsOf (kindIn (rl (c .before))))) (rl (c .before)) ≡ Pass
+numbers-behind c = let e = all-read c in c .before .loop .inv .1 ∙ bad-end (drop 1 (fieldsOf (kindIn (rl (c .before))))) (rl (c .before)) (c .before .loop .f) (omega arith)
 
-numbers : (c : Past) → badFields (fl (c .before .before)) (r (past-rec c)) ≡ Pass
-numbers c = let e = all-read c in c .before .loop .inv .1 ∙ bad-end (fl (c .before .before)) (r (past-rec c)) (c .before .loop .f) (omega arith)
+-- the number is compared
+abbrev AtCompared : Type 0
+AtCompared = tie.After-word-at Inv-loop μ-loop Inv-records μ-records
 
-values : (c : Past) → c .before .loop .values ≡ valuesIn (fl (c .before .before)) (r (past-rec c))
-values c = c .before .loop .inv .2 ∙ read-end _ _ _ (all-read c)
+abbrev past-of : AtCompared → AtNext
+past-of c = next-of (c .before .before)
+
+compared : (c : AtCompared) → word (take 8 (drop 2 (rl (c .before .before)))) ≡ c .word-at .result
+compared c = sym (c .word-at .ensures)
+
+-- the number is the one expected
+abbrev Quick : Type 0
+Quick = tie.Else4 Inv-loop μ-loop Inv-records μ-records
+
+number-right : (c : Quick) → numberOf (bytesOf (rl (c .before .before .before)) delegaNumber) ≡ Number (d-of (past-of (c .before)))
+number-right c =
+    let q = past-of (c .before) in
+    let m = rec-of (num-of q) in
+    number-same (r m) (is-number q) (whole m) (fine m) (d-of q) (d-small q) (compared (c .before) ∙ (c .if4 .left ∙ word-is (c .before .before .before .before)))
+
+quick-numbers : (c : Quick) → badFields (fieldsOf (kindIn (rl (c .before .before .before)))) (rl (c .before .before .before)) ≡ Pass
+quick-numbers c = number-then (rl (c .before .before .before)) (is-number (past-of (c .before))) ∙ rw (number-right c) (numbers-behind (c .before .before))
+
+quick-values : (c : Quick) → c .before .before .before .loop .values ≡ valuesIn (fieldsOf (kindIn (rl (c .before .before .before)))) (rl (c .before .before .before))
+quick-values c =
+    let l = c .before .before .before in
+    let fr = drop 1 (fieldsOf (kindIn (rl l))) in
+    let e = all-read (c .before .before) in
+    l .loop .inv .2
+    ∙ (ap (λ (m : ℕ). d-of (next-of l) ∷ (map (valueOf (rl l)) (take m fr) ++ replicate (3 - m) 0)) (sym e)
+    ∙ (ap (λ (t : List Field). d-of (next-of l) ∷ (map (valueOf (rl l)) t ++ replicate (3 - length fr) 0)) (take-all (length fr) fr (omega arith))
+    ∙ (ap (λ (m : ℕ). m ∷ (map (valueOf (rl l)) fr ++ replicate (3 - length fr) 0)) (sym (ap amountOf (number-right c)))
+    ∙ sym (values-then (rl l) (is-number (next-of l))))))
+
+-- the fields of a record without a number
+abbrev Plain : Type 0
+Plain = tie.Else5 Inv-loop μ-loop Inv-records μ-records
+
+abbrev plain-of : Plain → AtNumbered
+plain-of c = c .before .before .before .before
+
+read-plainly : (c : tie.After-values-in Inv-loop μ-loop Inv-records μ-records) → c .values-in .result ≡ valuesRead (fieldsOf (kindIn (r (rec-of (c .before .before))))) (r (rec-of (c .before .before)))
+read-plainly c = c .values-in .ensures ∙ ap (λ (k : Kind). valuesRead (fieldsOf k) (r (rec-of (c .before .before)))) (kind-is (formed (c .before .before)))
+
+plain-good : (c : Plain) → (badFields (fieldsOf (kindIn (r (rec-of (plain-of c))))) (r (rec-of (plain-of c))) ≡ Pass) × (valuesRead (fieldsOf (kindIn (r (rec-of (plain-of c))))) (r (rec-of (plain-of c))) .values ≡ valuesIn (fieldsOf (kindIn (r (rec-of (plain-of c))))) (r (rec-of (plain-of c))))
+plain-good c = values-good _ _ (sym (ap (λ (x : Values). x .bad) (read-plainly (c .before .before))) ∙ c .if5 .left)
+
+-- where both ways meet: every field is a number, the values are those of the fields, and the word is that of the number of deleghe after the record
+abbrev Met : Type 0
+Met = tie.Joined3 Inv-loop μ-loop Inv-records μ-records
+
+abbrev rm : Met → List ℕ
+rm c = r (rec-of (c .before))
+
+abbrev Told : Met → Type 0
+Told c =
+    (badFields (fieldsOf (kindIn (rm c))) (rm c) ≡ Pass) × (c .if3 .values ≡ valuesIn (fieldsOf (kindIn (rm c))) (rm c)) × (c .if3 .number ≡ word (digitsOf 8 (nextDeleghe (st (rec-of (c .before)) .deleghe) (kindIn (rm c)))))
+
+met : (c : Met) → Told c
+met c =
+    ⊎-elim
+    (λ w.
+    let q : Quick = record { before = record { before = record { before = record { before = record { before = record { before = record { before = c .before; if3 = w .0 }; next-deleghe = w .1 }; match = w .2 }; loop = w .3 }; loop-test = w .4 }; word-at = w .5 }; if4 = w .6 } in
+    let n : AtNext = record { before = record { before = c .before; if3 = w .0 }; next-deleghe = w .1 } in
+    (quick-numbers q, w .8 ∙ quick-values q, w .7 ∙ (word-is (q .before .before .before .before) ∙ ap (λ (i : ℕ). word (digitsOf 8 i)) (d-is n))))
+    (λ w.
+    let q : Plain = record { before = record { before = record { before = record { before = c .before; if3 = w .0 }; values-in = w .1 }; struct-known = w .2 }; if5 = w .3 } in
+    let g = plain-good q in
+    let u : numbered (kindIn (rm c)) ≡ false = rw (← (kind-is (formed (c .before)))) (sym (c .before .is-numbered .ensures) ∙ w .0 .left) in
+    (g .0, w .6 ∙ (ap (λ (x : Values). x .values) (read-plainly (q .before .before)) ∙ g .1), w .5 ∙ (rec-of (c .before) .before .before .records .inv .3 ∙ ap (λ (i : ℕ). word (digitsOf 8 i)) (sym (unnumbered-next _ _ u)))))
+    (c .if3 .came)
 
 -- after `values_fault`: the fault of the record is its answer
 abbrev AtValues : Type 0
 AtValues = tie.After-values-fault Inv-loop μ-loop Inv-records μ-records
 
-judged-by : (c : AtValues) → fault (headNameOf (flow (past-rec (c .before)))) (st (past-rec (c .before))) (r (past-rec (c .before))) ≡ c .values-fault .result
+abbrev rv : AtValues → AtRec
+rv c = rec-of (c .before .before)
+
+judged-by : (c : AtValues) → fault (headNameOf (flow (rv c))) (st (rv c)) (r (rv c)) ≡ c .values-fault .result
 judged-by c =
-    let q = kind-of (c .before .before .before) in
-    fault-values _ _ _ (k q) (q .kind-in .ensures) (printed q) (stood (c .before .before .before)) (numbers (c .before)) (rw (← (values (c .before))) (sym (c .values-fault .ensures)))
+    let m = met (c .before) in
+    let q = c .before .before in
+    let name = headNameOf (flow (rv c)) in
+    fault-values name (st (rv c)) (r (rv c)) (kindIn (r (rv c))) refl (printed (rv c)) (stood q) (m .0)
+    (sym (c .values-fault .ensures
+    ∙ (ap (λ (k : Kind). valuesOn name (st (rv c)) k (c .before .if3 .values) (r (rv c))) (kind-is (formed q))
+    ∙ ap (λ (vs : List ℕ). valuesOn name (st (rv c)) (kindIn (r (rv c))) vs (r (rv c))) (m .1))))
+
+-- the judgement of a record that was misread
+misread-out : (c : AtNumbered) → (badFields (fieldsOf (kindIn (r (rec-of c)))) (r (rec-of c)) ≡ Pass → numberFault (st (rec-of c) .deleghe) (kindIn (r (rec-of c))) (valueOf (r (rec-of c)) delegaNumber) ≡ Fault 8 4) → after (badFields (fieldsOf (formed c .form-in .result .kind)) (r (rec-of c))) (st (rec-of c) .seen) (refusedWith 8 (st (rec-of c) .seen + 1) 4) ≡ judgedFrom (headNameOf (flow (rec-of c))) (start (rec-of c)) (restOf (flow (rec-of c)) (start (rec-of c) .seen))
+misread-out c w =
+    let q = rec-of c in
+    ap (λ (k : Kind). after (badFields (fieldsOf k) (r q)) (st q .seen) (refusedWith 8 (st q .seen + 1) 4)) (kind-is (formed c))
+    ∙ out-misread (flow q) _ (st q) (going q) (more q) (r q) (q .record-at .ensures) (printed q) (stood c) w
+
+next-is : (c : tie.After-next-state Inv-loop μ-loop Inv-records μ-records) → c .next-state .result ≡ nextOf (st (rv (c .before .before .before))) (kindIn (r (rv (c .before .before .before)))) (pairOf (valuesIn (fieldsOf (kindIn (r (rv (c .before .before .before))))) (r (rv (c .before .before .before)))))
+next-is c =
+    let v = c .before .before .before in
+    c .next-state .ensures
+    ∙ (ap (λ (k : Kind). nextOf (st (rv v)) k (pairOf (v .before .if3 .values))) (kind-is (formed (v .before .before)))
+    ∙ ap (λ (vs : List ℕ). nextOf (st (rv v)) (kindIn (r (rv v))) (pairOf vs)) (met (v .before) .1))
 
 sub-name : tie.Need-sub-name Inv-loop μ-loop Inv-records μ-records
 sub-name c = search needs
@@ -162,11 +334,17 @@ part-name-start c = search needs
 part-name-end : tie.Need-part-name-end Inv-loop μ-loop Inv-records μ-records
 part-name-end c = search needs
 
-records-holds : tie.Need-records-holds Inv-loop μ-loop Inv-records μ-records
-records-holds c = record { ahead = c .before .before .pre .ahead; rest = refl; below = c .before .before .pre .below }
+clean-records-requires : tie.Need-clean-records-requires Inv-loop μ-loop Inv-records μ-records
+clean-records-requires c κs = c .before .before .pre .ahead
 
-closing-of-requires : tie.Need-closing-of-requires Inv-loop μ-loop Inv-records μ-records
-closing-of-requires c κs = search needs
+number-word-requires : tie.Need-number-word-requires Inv-loop μ-loop Inv-records μ-records
+number-word-requires c κs = let b = c .before .before .before .pre .below .deleghe-below in let a = c .before .before .before .pre .ahead in omega (arith, c .before .before .before .pre .short)
+
+records-holds : tie.Need-records-holds Inv-loop μ-loop Inv-records μ-records
+records-holds c = (record { ahead = c .before .before .before .before .pre .ahead; rest = refl; below = c .before .before .before .before .pre .below }, omega arith, c .before .clean-records .ensures .behind, c .number-word .ensures)
+
+ended-requires : tie.Need-ended-requires Inv-loop μ-loop Inv-records μ-records
+ended-requires c κs = (refl, let a = c .before .records .inv .0 .ahead in omega arith, let a = c .before .records .inv .0 .ahead in omega (arith, c .before .before .before .before .before .before .pre .short))
 
 mul-record-at : tie.Need-mul-record-at Inv-loop μ-loop Inv-records μ-records
 mul-record-at c = search needs
@@ -174,151 +352,181 @@ mul-record-at c = search needs
 record-at-requires : tie.Need-record-at-requires Inv-loop μ-loop Inv-records μ-records
 record-at-requires c κs = search needs
 
-char-fault-requires : tie.Need-char-fault-requires Inv-loop μ-loop Inv-records μ-records
-char-fault-requires c κs = search needs
+form-in-requires : tie.Need-form-in-requires Inv-loop μ-loop Inv-records μ-records
+form-in-requires c κs = whole c
 
-enum-known-number : tie.Need-enum-known-number Inv-loop μ-loop Inv-records μ-records
-enum-known-number c = search needs
+fits-requires : tie.Need-fits-requires Inv-loop μ-loop Inv-records μ-records
+fits-requires c κs = search needs
 
-add-refused : tie.Need-add-refused Inv-loop μ-loop Inv-records μ-records
-add-refused c = search needs
+misplaced-requires : tie.Need-misplaced-requires Inv-loop μ-loop Inv-records μ-records
+misplaced-requires c κs = (whole (c .before .before .before .before), omega (arith, small (c .before .before .before .before)))
 
-refused-requires : tie.Need-refused-requires Inv-loop μ-loop Inv-records μ-records
-refused-requires c κs = search needs
+is-numbered-requires : tie.Need-is-numbered-requires Inv-loop μ-loop Inv-records μ-records
+is-numbered-requires c κs = search needs
+
+next-deleghe-requires : tie.Need-next-deleghe-requires Inv-loop μ-loop Inv-records μ-records
+next-deleghe-requires c κs = let b = going (rec-of (c .before)) .below .deleghe-below in omega (arith, small (rec-of (c .before)))
 
 enum-told : tie.Need-enum-told Inv-loop μ-loop Inv-records μ-records
 enum-told c = search needs
 
-kind-in-requires : tie.Need-kind-in-requires Inv-loop μ-loop Inv-records μ-records
-kind-in-requires c κs = whole (c .before .before .before)
+number-word-requires-2 : tie.Need-number-word-requires-2 Inv-loop μ-loop Inv-records μ-records
+number-word-requires-2 c κs = d-small (c .before .before)
 
-type-in-requires : tie.Need-type-in-requires Inv-loop μ-loop Inv-records μ-records
-type-in-requires c κs = whole (rec-of (c .before))
+array-write-values : tie.Need-array-write-values Inv-loop μ-loop Inv-records μ-records
+array-write-values c = search needs
 
-standing-of-requires : tie.Need-standing-of-requires Inv-loop μ-loop Inv-records μ-records
-standing-of-requires c κs = search needs
-
-enum-known-number-2 : tie.Need-enum-known-number-2 Inv-loop μ-loop Inv-records μ-records
-enum-known-number-2 c = search needs
-
-add-refused-2 : tie.Need-add-refused-2 Inv-loop μ-loop Inv-records μ-records
-add-refused-2 c = search needs
-
-refused-requires-2 : tie.Need-refused-requires-2 Inv-loop μ-loop Inv-records μ-records
-refused-requires-2 c κs = search needs
-
-enum-told-2 : tie.Need-enum-told-2 Inv-loop μ-loop Inv-records μ-records
-enum-told-2 c = search needs
-
-fields-of-requires : tie.Need-fields-of-requires Inv-loop μ-loop Inv-records μ-records
-fields-of-requires c κs = search needs
+at-first : (c : AtWord) → formed (num-of (c .before)) .form-in .result .at ≡ getD (drop 1 (fieldsOf (kindIn (r (rec-of (num-of (c .before))))))) 0 nowhere .start
+unfolding formOf
+at-first c = ap (λ (x : Form). x .at) (formed (num-of (c .before)) .form-in .ensures) ∙ sym (behind-first (r (rec-of (num-of (c .before)))) (is-number (c .before)))
 
 loop-holds : tie.Need-loop-holds Inv-loop μ-loop Inv-records μ-records
-loop-holds c = (omega arith, refl, refl)
+loop-holds c = (omega arith, refl, refl, λ h. at-first c)
 
-mul-field : tie.Need-mul-field Inv-loop μ-loop Inv-records μ-records
-mul-field c = omega (arith, four c)
-
-array-copy-out-field : tie.Need-array-copy-out-field Inv-loop μ-loop Inv-records μ-records
-array-copy-out-field c = four c
-
-read-field-requires : tie.Need-read-field-requires Inv-loop μ-loop Inv-records μ-records
-read-field-requires c κs = (whole (rec-of (kind-of (fields-of c))), within c)
+amount-at-requires : tie.Need-amount-at-requires Inv-loop μ-loop Inv-records μ-records
+amount-at-requires c κs = (let w = whole (rec-of (num-of (next-of (c .before)))) in omega (arith, at-within c), fine (rec-of (num-of (next-of (c .before)))))
 
 enum-known-v : tie.Need-enum-known-v Inv-loop μ-loop Inv-records μ-records
 enum-known-v c = search needs
 
-add-refused-3 : tie.Need-add-refused-3 Inv-loop μ-loop Inv-records μ-records
-add-refused-3 c = search needs
+enum-told-2 : tie.Need-enum-told-2 Inv-loop μ-loop Inv-records μ-records
+enum-told-2 c = search needs
 
-add-refused-4 : tie.Need-add-refused-4 Inv-loop μ-loop Inv-records μ-records
-add-refused-4 c = let w = within (c .before .before .before) in omega arith
+misread-requires : tie.Need-misread-requires Inv-loop μ-loop Inv-records μ-records
+misread-requires c κs = (whole (rec-of (num-of (next-of (c .before .before .before .before)))), omega (arith, small (rec-of (num-of (next-of (c .before .before .before .before))))))
 
-refused-requires-3 : tie.Need-refused-requires-3 Inv-loop μ-loop Inv-records μ-records
-refused-requires-3 c κs = search needs
+add-values : tie.Need-add-values Inv-loop μ-loop Inv-records μ-records
+add-values c = omega (arith, three (c .before .before .before .before))
 
 mul-values : tie.Need-mul-values Inv-loop μ-loop Inv-records μ-records
-mul-values c = omega (arith, four (c .before .before .before .before .before))
+mul-values c = omega (arith, three (c .before .before .before .before))
 
-array-write-values : tie.Need-array-write-values Inv-loop μ-loop Inv-records μ-records
-array-write-values c = four (c .before .before .before .before .before)
+array-write-values-2 : tie.Need-array-write-values-2 Inv-loop μ-loop Inv-records μ-records
+array-write-values-2 c = omega (arith, three (c .before .before .before .before))
+
+add-at : tie.Need-add-at Inv-loop μ-loop Inv-records μ-records
+add-at c = omega (arith, three (c .before .before .before .before))
+
+add-at-2 : tie.Need-add-at-2 Inv-loop μ-loop Inv-records μ-records
+add-at-2 c = omega (arith, three (c .before .before .before .before), at-within (c .before .before .before .before))
 
 add-f : tie.Need-add-f Inv-loop μ-loop Inv-records μ-records
-add-f c = omega (arith, four (c .before .before .before .before .before))
+add-f c = omega (arith, three (c .before .before .before .before))
 
 loop-less : tie.Need-loop-less Inv-loop μ-loop Inv-records μ-records
-loop-less c = omega (arith, inside (c .before .before .before .before .before))
+loop-less c = let t = c .before .before .before .before .loop-test .taken in omega arith
 
 loop-again : tie.Need-loop-again Inv-loop μ-loop Inv-records μ-records
 loop-again c =
-    let q = c .before .before .before .before .before in
-    let i = q .before .loop .inv in
-    let e = sym (read (c .before .before .before)) ∙ c .before .v .given .1 in
-    (omega (arith, inside q), i .1 ∙ bad-on _ _ _ (inside q) _ e, rw (i .2, ← (ap amountOf e)) (read-on _ _ _ (inside q) (four q)))
+    let a = c .before .before .before in
+    let i = a .before in
+    let l = i .before in
+    let n = is-number (next-of l) in
+    let fr = drop 1 (fieldsOf (kindIn (rl l))) in
+    let v = amount-number _ _ (sym (c .before .v .given .1) ∙ said a) in
+    let x = map (valueOf (rl l)) (take (f-of i) fr) ++ replicate (3 - f-of i) 0 in (
+      omega (arith, ahead i),
+      l .loop .inv .1 ∙ bad-on _ _ _ (ahead i) _ v,
+      rw (l .loop .inv .2) (ap (λ (m : ℕ). set (d-of (next-of l) ∷ x) m (c .before .v .given .0 .0)) (add-one (f-of i)) ∙ ap (λ (t : List ℕ). d-of (next-of l) ∷ t) (rw (← (ap amountOf v)) (read-on fr (rl l) (f-of i) (ahead i) 3 (three i)))),
+      λ g. let e = at-is i in sym (behind-next (rl l) n (f-of i) (ahead i) g ∙ ap (λ (m : ℕ). m + (15 + f-of i)) (sym e)),
+    )
+
+word-at-requires : tie.Need-word-at-requires Inv-loop μ-loop Inv-records μ-records
+word-at-requires c κs = let w = whole (rec-of (num-of (next-of (c .before)))) in omega arith
+
+misread-requires-2 : tie.Need-misread-requires-2 Inv-loop μ-loop Inv-records μ-records
+misread-requires-2 c κs = (whole (rec-of (num-of (next-of (c .before .before .before)))), omega (arith, small (rec-of (num-of (next-of (c .before .before .before))))))
+
+values-in-requires : tie.Need-values-in-requires Inv-loop μ-loop Inv-records μ-records
+values-in-requires c κs = whole (rec-of (c .before))
+
+add-refused : tie.Need-add-refused Inv-loop μ-loop Inv-records μ-records
+add-refused c = omega (arith, small (rec-of (c .before .before .before .before)))
+
+refused-requires : tie.Need-refused-requires Inv-loop μ-loop Inv-records μ-records
+refused-requires c κs = search needs
 
 values-fault-requires : tie.Need-values-fault-requires Inv-loop μ-loop Inv-records μ-records
-values-fault-requires c κs =
-    let q = past-rec c in
-    let b = q .before .before .records .inv .below .deleghe-below in
-    let s = small q in
-    (whole q, omega arith, omega arith)
+values-fault-requires c κs = let q = rec-of (c .before) in let b = going q .below .deleghe-below in let s = small q in (whole q, omega arith, omega arith)
 
-enum-known-number-3 : tie.Need-enum-known-number-3 Inv-loop μ-loop Inv-records μ-records
-enum-known-number-3 c = search needs
+enum-known-number : tie.Need-enum-known-number Inv-loop μ-loop Inv-records μ-records
+enum-known-number c = search needs
 
-add-refused-5 : tie.Need-add-refused-5 Inv-loop μ-loop Inv-records μ-records
-add-refused-5 c = search needs
+add-refused-2 : tie.Need-add-refused-2 Inv-loop μ-loop Inv-records μ-records
+add-refused-2 c = omega (arith, small (rv (c .before .before .before)))
 
-refused-requires-4 : tie.Need-refused-requires-4 Inv-loop μ-loop Inv-records μ-records
-refused-requires-4 c κs = search needs
+refused-requires-2 : tie.Need-refused-requires-2 Inv-loop μ-loop Inv-records μ-records
+refused-requires-2 c κs = search needs
 
 enum-told-3 : tie.Need-enum-told-3 Inv-loop μ-loop Inv-records μ-records
 enum-told-3 c = search needs
 
-array-read-t49 : tie.Need-array-read-t49 Inv-loop μ-loop Inv-records μ-records
-array-read-t49 c = search needs
+array-read-t47 : tie.Need-array-read-t47 Inv-loop μ-loop Inv-records μ-records
+array-read-t47 c = search needs
 
-array-read-t52 : tie.Need-array-read-t52 Inv-loop μ-loop Inv-records μ-records
-array-read-t52 c = search needs
+array-read-t50 : tie.Need-array-read-t50 Inv-loop μ-loop Inv-records μ-records
+array-read-t50 c = search needs
 
 next-state-requires : tie.Need-next-state-requires Inv-loop μ-loop Inv-records μ-records
 next-state-requires c κs =
-    let p = c .before .before .before in
-    let q = past-rec p in
-    let b = q .before .before .records .inv .below in
+    let v = c .before .before in
+    let q = rv v in
+    let b = going q .below in
     let s = small q in
-    ((money-room _ _ _ (omega arith) (b .money-below), rw (values p) (pair-small (k (kind-of (p .before .before))) (r q) (whole q))), (omega (arith, b .lines-below), omega (arith, b .deleghe-below), omega arith))
+    ((money-room _ _ _ (omega arith) (b .money-below), rw (met (v .before) .1) (pair-small (kindIn (r q)) (r q) (whole q))), (omega (arith, b .lines-below), omega (arith, b .deleghe-below), omega arith))
 
 records-less : tie.Need-records-less Inv-loop μ-loop Inv-records μ-records
-records-less c = rw (c .next-state .ensures) (omega (arith, more (past-rec (c .before .before .before .before))))
+records-less c = rw (c .next-state .ensures) (omega (arith, within-clean (rv (c .before .before .before))))
 
 records-again : tie.Need-records-again Inv-loop μ-loop Inv-records μ-records
 records-again c =
-    let p = c .before .before .before .before in
-    let q = past-rec p in
-    rw (c .next-state .ensures, values p) (going-on _ _ _ (q .before .before .records .inv) (more q) _ (q .record-at .ensures) _ (kind-of (p .before .before) .kind-in .ensures) (whole q) (judged-by (c .before .before .before) ∙ c .before .enum-told3 .given .1))
+    let v = c .before .before .before in
+    let q = rv v in
+    let b = q .before .before .records .inv in
+    rw (next-is c) (going-on _ _ _ (going q) (more q) _ (q .record-at .ensures) _ refl (whole q) (judged-by v ∙ c .before .enum-told3 .given .1), omega (arith, b .1), omega (arith, within-clean q), met (v .before) .2)
 
 returns : tie.Need-returns Inv-loop μ-loop Inv-records μ-records
-returns c = c .closing-of .ensures ∙ sym (going-end _ _ _ (c .before .before .records .inv) (c .before .if1 .taken))
+returns c = c .ended .ensures ∙ out-ended _ _ _ (c .before .before .records .inv .0) (c .before .before .before .before .before .before .before .args .start .seen) (rw (c .before .if1 .taken) (c .before .before .before .before .clean-records .ensures))
 
 returns-2 : tie.Need-returns-2 Inv-loop μ-loop Inv-records μ-records
-returns-2 c = c .refused .ensures ∙ sym (refuse (c .before .before .before .before .before) (fault-chars _ _ _ (sym (c .before .before .before .before .char-fault .ensures) ∙ c .before .before .number .given .1)))
+returns-2 c =
+    let n = c .before .before in
+    let f = n .before .before in
+    let q = f .before in
+    c .misplaced .ensures
+    ∙ (ap (λ (k : Kind). after (standing (st q .stage) (typeIn (r q)) k) (st q .seen) (refusedWith 4 (st q .seen + 1) 2)) (kind-is f)
+    ∙ out-misplaced (flow q) _ (st q) (going q) (more q) (r q) (q .record-at .ensures) (printed q) (rw (← (kind-is f)) (sym (n .fits2 .ensures) ∙ turned (n .fits2 .result) (c .before .if2 .taken))) _)
 
 returns-3 : tie.Need-returns-3 Inv-loop μ-loop Inv-records μ-records
 returns-3 c =
-    let q = c .before .before .before .before .before .before .before in
-    c .refused2 .ensures ∙ sym (refuse (rec-of q) (fault-standing _ _ _ (k q) (q .kind-in .ensures) (printed q) (rw (← (c .before .before .before .before .before .type-in .ensures)) (sym (c .before .before .before .before .standing-of .ensures) ∙ c .before .before .number2 .given .1))))
+    let a = c .before .before .before in
+    let i = a .before in
+    let l = i .before in
+    let n = is-number (next-of l) in
+    c .misread .ensures ∙ misread-out (num-of (next-of l)) (λ p. absurd (amount-bad (rl l) n (l .loop .inv .1 ∙ amount-none _ _ _ (ahead i) (sym (said a) ∙ c .before .enum-told2 .given .1)) p))
 
 returns-4 : tie.Need-returns-4 Inv-loop μ-loop Inv-records μ-records
 returns-4 c =
-    let p = c .before .before .before .before in
-    let q = kind-of (fields-of p) in
-    c .refused3 .ensures
-    ∙ (ap (λ (x : Field). refusedWith 7 (st (rec-of q) .seen + 1) (x .start + 1)) (field-is p)
-    ∙ sym (refuse (rec-of q) (fault-fields _ _ _ (k q) (q .kind-in .ensures) (printed q) (stood (fields-of p)) (p .before .before .loop .inv .1 ∙ bad-here _ _ _ (inside (p .before)) _ (read (c .before .before .before)) (c .before .before .match3 .keys2)))))
+    let a = c .before .before in
+    let n = past-of a in
+    let q = rec-of (num-of n) in
+    c .misread2 .ensures
+    ∙ misread-out (num-of n) (λ p. number-other (r q) (is-number n) (whole q) (fine q) (d-of n) (d-small n) (st q .deleghe) (d-is n) (λ e. c .before .if4 .taken (sym (compared a) ∙ (e ∙ sym (word-is (a .before .before .before))))) p)
 
 returns-5 : tie.Need-returns-5 Inv-loop μ-loop Inv-records μ-records
-returns-5 c = c .refused4 .ensures ∙ sym (refuse (past-rec (c .before .before .before .before .before)) (judged-by (c .before .before .before .before) ∙ c .before .before .number3 .given .1))
+returns-5 c =
+    let v = c .before .before .before in
+    let n = v .before .before in
+    let q = rec-of n in
+    c .refused .ensures
+    ∙ (ap (λ (x : Values). refusedWith 7 (st q .seen + 1) (x .bad)) (read-plainly v)
+    ∙ out-bad (flow q) _ (st q) (going q) (more q) (r q) (q .record-at .ensures) (printed q) (stood n) (values-bad _ _ (λ z. c .before .if5 .taken (ap (λ (x : Values). x .bad) (read-plainly v) ∙ z))))
+
+returns-6 : tie.Need-returns-6 Inv-loop μ-loop Inv-records μ-records
+returns-6 c =
+    let v = c .before .before .before .before in
+    let q = rv v in
+    c .refused2 .ensures ∙ sym (going-refuses (flow q) _ (st q) (going q) (more q) (r q) (q .record-at .ensures) (judged-by v ∙ c .before .before .number .given .1))
 
 pub judge-from-spec : {M : Type 1} → statement M
 judge-from-spec =
@@ -331,43 +539,45 @@ judge-from-spec =
     sub-name
     part-name-start
     part-name-end
+    clean-records-requires
+    number-word-requires
     records-holds
-    closing-of-requires
+    ended-requires
     mul-record-at
     record-at-requires
-    char-fault-requires
-    enum-known-number
-    add-refused
-    refused-requires
+    form-in-requires
+    fits-requires
+    misplaced-requires
+    is-numbered-requires
+    next-deleghe-requires
     enum-told
-    kind-in-requires
-    type-in-requires
-    standing-of-requires
-    enum-known-number-2
-    add-refused-2
-    refused-requires-2
-    enum-told-2
-    fields-of-requires
-    loop-holds
-    mul-field
-    array-copy-out-field
-    read-field-requires
-    enum-known-v
-    add-refused-3
-    add-refused-4
-    refused-requires-3
-    mul-values
+    number-word-requires-2
     array-write-values
+    loop-holds
+    amount-at-requires
+    enum-known-v
+    enum-told-2
+    misread-requires
+    add-values
+    mul-values
+    array-write-values-2
+    add-at
+    add-at-2
     add-f
     loop-less
     loop-again
+    word-at-requires
+    misread-requires-2
+    values-in-requires
+    add-refused
+    refused-requires
     values-fault-requires
-    enum-known-number-3
-    add-refused-5
-    refused-requires-4
+    enum-known-number
+    add-refused-2
+    refused-requires-2
     enum-told-3
-    array-read-t49
-    array-read-t52
+    array-read-t47
+    array-read-t50
     next-state-requires
     records-less
     records-again
@@ -375,4 +585,5 @@ judge-from-spec =
     returns-2
     returns-3
     returns-4
-    returns-5)
+    returns-5
+    returns-6)

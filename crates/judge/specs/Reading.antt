@@ -1,0 +1,38 @@
+-- Serves inner functions. How the judge looks at characters and fields: records up to the first that is not clean, and the values of a record's fields.
+use Prim.Native.Nat.{ℕ, _+_, _-_, _*_, _/_, _<_, _≤_}
+use mathlib.Core.Path.{_≡_}
+use mathlib.Core.Bool.{Bool, true, false, cond}
+use mathlib.Core.List.{List}
+use lib.Dec.{eqb}
+use lib.ListN.{length, take, drop, replicate}
+use Rattle.text.specs.Characters.{firstBad, allAllowed}
+use Rattle.layout.specs.declared.Field.{Field}
+use Rattle.amounts.specs.declared.Outcome.{Outcome}
+use Rattle.amounts.specs.declared.Outcome.the-variants.{Pass, Fault}
+use Rattle.rules.specs.declared.State.{State}
+use Rattle.rules.specs.Checks.{charFault, badFields}
+use Rattle.rules.specs.Values.{valuesIn}
+use Rattle.judge.specs.declared.Judgement.{Judgement}
+use Rattle.judge.specs.declared.Values.{Values}
+use Rattle.judge.specs.Flow.{refusedWith, closing, after}
+
+-- the records behind the first m, up to n, are all characters, and the next one, where there is one, is not
+pub record Clean (s : List ℕ) (m n : ℕ) : Type 0 where
+  pub behind : m ≤ n
+  pub ahead : n ≤ length s / 120
+  pub clean : allAllowed (take ((n - m) * 120) (drop (m * 120) s)) ≡ true
+  pub spoilt : n < length s / 120 → allAllowed (take 120 (drop (n * 120) s)) ≡ false
+
+-- behind the clean records: the closing where no record is left, else what check 3 says of the next one
+abbrev pub ending : List ℕ → State → Judgement
+ending s st =
+    cond (eqb (st .seen) (length s / 120)) (closing st)
+    (after (charFault (firstBad (take 120 (drop (st .seen * 120) s)))) (st .seen) (refusedWith 5 (st .seen + 1) 0))
+
+-- the values of the fields of a list, or the position of the first that holds something else than digits
+abbrev valuesBy : Outcome → List ℕ → Values
+valuesBy Pass vs = record { bad = 0; values = vs }
+valuesBy (Fault e p) vs = record { bad = p; values = replicate 4 0 }
+
+unfoldable pub valuesRead : List Field → List ℕ → Values
+valuesRead fl r = valuesBy (badFields fl r) (valuesIn fl r)
