@@ -1,0 +1,331 @@
+//! The examples of document 01, and what is peculiar to this judge: words of
+//! eight digits, columns that are added with no carry, blocks of records.
+
+use super::layout::{Record, RECORD};
+use super::number::Number;
+use super::words::{amount, count, Amounts, Columns};
+use super::{judge, Refusal, Summary};
+
+const MOST: u64 = 999_999_999_999_999;
+
+// ---------------------------------------------------------------- building
+
+/// Line subtype and the lines' debits and credits.
+type Section<'a> = (u64, &'a [(u64, u64)]);
+
+fn put(bytes: &mut [u8], position: usize, text: &str) {
+    bytes[position - 1..position - 1 + text.len()].copy_from_slice(text.as_bytes());
+}
+
+/// A record of spaces with these texts at these positions.
+fn record(texts: &[(usize, &str)]) -> Record {
+    let mut record = [b' '; RECORD];
+    texts.iter().for_each(|&(position, text)| put(&mut record, position, text));
+    record
+}
+
+fn head() -> Record {
+    record(&[(2, "F4"), (14, "311299"), (20, "SUPPORT-NAME 0000001")])
+}
+
+fn tail(deleghe: usize, records: usize, sum: u64) -> Record {
+    let counts = format!("{deleghe:07}{sum:015}");
+    record(&[(2, "EF"), (20, "SUPPORT-NAME 0000001"), (46, &counts), (83, &format!("{records:07}"))])
+}
+
+fn numbered(kind: &str, delega: usize, subtype: &str) -> Record {
+    record(&[(2, kind), (4, &format!("{delega:07}{subtype}"))])
+}
+
+fn line(delega: usize, subtype: u64, (debit, credit): (u64, u64)) -> Record {
+    let mut record = numbered("40", delega, &format!("{subtype:02}"));
+    let debit_at = match subtype {
+        1 => 27,
+        3 => 52,
+        5 => 29,
+        7 => 31,
+        _ => 41,
+    };
+    put(&mut record, debit_at, &format!("{debit:015}{credit:015}"));
+    record
+}
+
+fn balance(delega: usize, subtype: u64, debits: u64, credits: u64) -> Record {
+    let mut record = numbered("40", delega, &format!("{:02}", subtype + 1));
+    let sign_at = match subtype {
+        5 => 45,
+        7 => 47,
+        _ => 43,
+    };
+    if subtype != 17 {
+        put(&mut record, sign_at - 30, &format!("{debits:015}{credits:015}"));
+    }
+    let sign = if debits < credits { "N" } else { "P" };
+    put(&mut record, sign_at, &format!("{sign}{:015}", debits.abs_diff(credits)));
+    record
+}
+
+fn payment(delega: usize, due: u64) -> Record {
+    let mut record = numbered("50", delega, "01");
+    put(&mut record, 36, &format!("{due:015}"));
+    record
+}
+
+/// The flow of these deleghe; a negative balance is stored as zero.
+fn flow(deleghe: &[&[Section]]) -> Vec<u8> {
+    let mut records = vec![head()];
+    let mut total = 0;
+    for (number, sections) in (1..).zip(deleghe) {
+        records.extend([numbered("10", number, ""), numbered("20", number, "")]);
+        let (mut debits, mut credits) = (0, 0);
+        for &(subtype, lines) in *sections {
+            records.extend(lines.iter().map(|&amounts| line(number, subtype, amounts)));
+            let (debit, credit) = lines.iter().fold((0, 0), |sums, line| (sums.0 + line.0, sums.1 + line.1));
+            records.push(balance(number, subtype, debit, credit));
+            debits += debit;
+            credits += credit;
+        }
+        let due = u64::saturating_sub(debits, credits);
+        records.push(payment(number, due));
+        total += due;
+    }
+    records.push(tail(deleghe.len(), records.len() + 1, total));
+    records.concat()
+}
+
+/// The flow of one delega with one section.
+fn one(subtype: u64, lines: &[(u64, u64)]) -> Vec<u8> {
+    flow(&[&[(subtype, lines)]])
+}
+
+/// Records: 1 F4, 2 10, 3 20, 4 and 5 40-05, 6 40-06, 7 50-01, 8 EF.
+fn example() -> Vec<u8> {
+    one(5, &[(10_000, 0), (0, 2500)])
+}
+
+/// The longest flow, of 546 records: 107 deleghe of one line, one of five.
+fn longest() -> Vec<u8> {
+    let short: &[Section] = &[(5, &[(1, 0)])];
+    let mut deleghe = vec![short; 107];
+    deleghe.push(&[(1, &[(1, 0); 5])]);
+    flow(&deleghe)
+}
+
+fn with(mut flow: Vec<u8>, record: usize, position: usize, text: &str) -> Vec<u8> {
+    put(&mut flow, (record - 1) * RECORD + position, text);
+    flow
+}
+
+#[track_caller]
+fn assert_refused(flow: &[u8], number: u8, record: usize, position: usize) {
+    assert_eq!(judge(flow), Err(Refusal { number, record, position }));
+}
+
+// ---------------------------------------------------------------- examples
+
+#[test]
+fn the_printed_example() {
+    let sums = [(0, 0), (0, 0), (10_000, 2500), (0, 0), (0, 0)];
+    assert_eq!(judge(&example()), Ok(Summary { deleghe: 1, records: 8, total: 7500, sums }));
+}
+
+#[test]
+fn a_blank_is_no_zero() {
+    assert_refused(&with(example(), 4, 29, "00000000000750 "), 7, 4, 29);
+    assert_refused(&with(example(), 4, 44, "               "), 7, 4, 44);
+}
+
+#[test]
+fn lines_beyond_the_most() {
+    for (subtype, most) in [(1, 6), (3, 4), (5, 4), (7, 4), (17, 28)] {
+        assert!(judge(&one(subtype, &vec![(1, 0); most])).is_ok());
+        let more = one(subtype, &vec![(1, 0); most + 1]);
+        assert_refused(&more, 6, 3 + most + 1, 11);
+        // 6 comes before 7 and 8, and after 4.
+        assert_refused(&with(more.clone(), 3 + most + 1, 4, "000000x"), 6, 3 + most + 1, 11);
+        assert_refused(&with(more, 3 + most + 1, 11, "99"), 4, 3 + most + 1, 11);
+    }
+}
+
+#[test]
+fn line_amounts() {
+    for (subtype, debit_at) in [(1, 27), (3, 52), (5, 29), (7, 31), (17, 41)] {
+        assert_refused(&one(subtype, &[(5, 0), (0, 0)]), 9, 5, debit_at);
+        assert_eq!(judge(&one(subtype, &[(5, 5)])).is_ok(), subtype != 17);
+    }
+    assert_refused(&one(17, &[(0, 5)]), 9, 4, 56);
+    assert_refused(&one(17, &[(100, 1)]), 9, 4, 56);
+}
+
+#[test]
+fn lengths() {
+    let mut longest = longest();
+    assert_eq!(longest.len(), 65_520);
+    let summary = judge(&longest).unwrap();
+    assert_eq!((summary.deleghe, summary.records, summary.total), (108, 546, 112));
+    longest.push(b' ');
+    assert_refused(&longest, 1, 0, 0);
+    assert_refused(&[b' '; 119], 2, 0, 0);
+    assert_refused(&[], 2, 0, 0);
+}
+
+#[test]
+fn the_order_of_records() {
+    assert_refused(&[head(), tail(0, 2, 0)].concat(), 4, 2, 2);
+    assert_refused(&head(), 5, 2, 0);
+    let flow = example();
+    for records in 1..8 {
+        assert_refused(&flow[..records * RECORD], 5, records + 1, 0);
+    }
+    // A second EF, and a second 50-01 before it.
+    let again = |at: usize| [&flow[..at * RECORD], &flow[(at - 1) * RECORD..]].concat();
+    assert_refused(&again(8), 4, 9, 2);
+    assert_refused(&again(7), 4, 8, 11);
+    assert_refused(&again(6), 4, 7, 11);
+    assert_refused(&with(flow.clone(), 5, 11, "03"), 4, 5, 11);
+    assert_refused(&with(flow, 3, 2, "40"), 4, 3, 2);
+}
+
+#[test]
+fn a_negative_section_and_a_negative_delega() {
+    let regioni: Section = (5, &[(2500, 0), (0, 10_000)]);
+    let sound = flow(&[&[(1, &[(7500, 0)]), regioni]]);
+    assert_eq!(judge(&sound).unwrap().total, 0);
+    assert_eq!(sound[7 * RECORD + 44], b'N');
+    assert_refused(&flow(&[&[(1, &[(7499, 0)]), regioni]]), 14, 9, 2);
+}
+
+#[test]
+fn totals_sign_and_balance() {
+    let mut record = 3;
+    let sections: &[Section] = &[(1, &[(9, 1)]), (3, &[(9, 1)]), (5, &[(9, 1)]), (7, &[(9, 1)])];
+    let flow = flow(&[sections]);
+    for sign_at in [43, 43, 45, 47] {
+        record += 2;
+        let seven = "000000000000007";
+        assert_refused(&with(flow.clone(), record, sign_at - 30, seven), 10, record, sign_at - 30);
+        assert_refused(&with(flow.clone(), record, sign_at - 15, seven), 11, record, sign_at - 15);
+        assert_refused(&with(flow.clone(), record, sign_at, "N"), 12, record, sign_at);
+        assert_refused(&with(flow.clone(), record, sign_at + 1, seven), 13, record, sign_at + 1);
+        assert_refused(&with(flow.clone(), record, sign_at + 1, "x"), 7, record, sign_at + 1);
+    }
+    assert_refused(&with(one(5, &[(5, 5)]), 5, 45, "N"), 12, 5, 45);
+}
+
+#[test]
+fn head_and_tail() {
+    for date in ["000199", "320199", "010099", "011399"] {
+        assert_refused(&with(example(), 1, 14, date), 17, 1, 14);
+    }
+    assert_refused(&with(example(), 1, 14, "31129a"), 7, 1, 14);
+    for position in 20..40 {
+        assert_refused(&with(example(), 1, position, "/"), 16, 1, 20);
+        assert_refused(&with(example(), 1, position, ":"), 16, 1, 20);
+        assert_refused(&with(example(), 8, position, "#"), 16, 8, 20);
+    }
+    assert_refused(&with(example(), 8, 46, "0000002"), 18, 8, 46);
+    assert_refused(&with(example(), 8, 83, "0000007"), 19, 8, 83);
+    assert_refused(&with(example(), 8, 53, "000000000007501"), 20, 8, 53);
+    assert_refused(&with(with(example(), 8, 53, " "), 8, 83, " "), 7, 8, 53);
+}
+
+// ------------------------------------------------------- words and columns
+
+#[test]
+fn every_character_in_every_place_of_a_field() {
+    for place in 0..15 {
+        for byte in 32..=126_u8 {
+            let mut digits = *b"123456789012345";
+            digits[place] = byte;
+            let text = String::from_utf8(digits.to_vec()).unwrap();
+            for around in [b' ', b'9', b'~'] {
+                let mut record = [around; RECORD];
+                put(&mut record, 29, &text);
+                assert_eq!(amount(&record, 29), text.parse().ok().filter(|_| byte.is_ascii_digit()));
+                put(&mut record, 44, "000000000000007");
+                assert_eq!(Amounts::read(&record, 29).is_some(), byte.is_ascii_digit());
+                let seven = text[..7].parse().ok().filter(|_| place > 6 || byte.is_ascii_digit());
+                assert_eq!(count(&record, 29), seven);
+            }
+        }
+    }
+}
+
+#[test]
+fn columns_hold_the_most_lines_of_nines() {
+    let record = line(1, 17, (MOST, MOST));
+    let nines = Amounts::read(&record, 41).unwrap();
+    let mut columns = Columns::ZERO;
+    for lines in 1..=28 {
+        columns = columns.plus(nines);
+        assert_eq!(columns.sums(), (lines * MOST, lines * MOST));
+    }
+}
+
+#[test]
+fn sums_beyond_fifteen_digits_are_not_reduced() {
+    let two = [line(1, 1, (MOST, 0)), line(1, 1, (1, 0))].concat();
+    let begun = [head(), numbered("10", 1, ""), numbered("20", 1, "")].concat();
+    assert_refused(&[begun, two, balance(1, 1, 0, 0).to_vec()].concat(), 10, 6, 13);
+    let part: &[Section] = &[(1, &[(MOST, MOST)])];
+    let summary = judge(&flow(&[part, part, part])).unwrap();
+    assert_eq!((summary.total, summary.sums[0]), (0, (3 * MOST, 3 * MOST)));
+}
+
+#[test]
+fn numbers_of_deleghe() {
+    let mut number = Number::ZERO;
+    for expected in 1..=1100 {
+        number = number.next();
+        assert!(number.is_in(&numbered("10", expected, ""), b'1'));
+        assert!(number.is_in_part(&numbered("40", expected, "17"), b"4000", *b"17"));
+    }
+    for place in 4..=10 {
+        for (record, other) in [(2, "9"), (3, "9"), (4, "9"), (6, "9"), (7, "9")] {
+            assert_refused(&with(example(), record, place, other), 8, record, 4);
+            assert_refused(&with(example(), record, place, "x"), 7, record, 4);
+        }
+    }
+}
+
+// ------------------------------------------------------------------ blocks
+
+#[test]
+fn every_byte_in_a_filler() {
+    for byte in 0..=255 {
+        let mut flow = example();
+        flow[3 * RECORD + 59] = byte;
+        match byte {
+            32..=126 => assert!(judge(&flow).is_ok()),
+            _ => assert_refused(&flow, 3, 4, 60),
+        }
+    }
+}
+
+#[test]
+fn a_bad_byte_anywhere() {
+    let sound = longest();
+    for record in 1..=546 {
+        for position in [1, 2, 16, 17, 104, 105, 112, 113, 120] {
+            let mut flow = sound.clone();
+            flow[(record - 1) * RECORD + position - 1] = 127;
+            assert_refused(&flow, 3, record, position);
+            // The first of two, and not before the fault of an earlier record.
+            flow[546 * RECORD - 1] = 31;
+            assert_refused(&flow, 3, record, position);
+            if record > 2 {
+                put(&mut flow, RECORD + 4, "0000002");
+                assert_refused(&flow, 8, 2, 4);
+            }
+        }
+    }
+}
+
+#[test]
+fn a_bad_byte_after_the_end() {
+    let mut flow = example();
+    flow.extend_from_slice(&[b' '; RECORD]);
+    assert_refused(&flow, 4, 9, 2);
+    *flow.last_mut().unwrap() = 0;
+    assert_refused(&flow, 3, 9, 120);
+}
