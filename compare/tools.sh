@@ -56,7 +56,16 @@ find_archive() {
     touch "$archive"
 }
 
-# compile NAME: src/NAME.rs with the library and the reference, all optimised alike, to $out/NAME.
+# judges TO [OPTION..]: the reference and the fast judge, as TO/libreference.rlib and TO/libfast.rlib.
+judges() {
+    to=$1
+    shift
+    for judge in reference fast; do
+        "$rustc" "$@" --edition 2021 -C opt-level=3 --crate-type rlib --crate-name $judge -o "$to/lib$judge.rlib" "$root/$judge/src/lib.rs" || return 1
+    done
+}
+
+# compile NAME: src/NAME.rs with the library, the reference and the fast judge, all optimised alike, to $out/NAME.
 compile() {
     name=$1
     find_rustc
@@ -68,21 +77,22 @@ compile() {
     fi
     # What is there stays where neither the library nor a source has changed.
     if cmp -s "$archive" "$out/link/libf24.a" && [ -x "$out/$name" ]; then
-        [ "$(find "$here" "$root/reference/src" "$out/link" -newer "$out/$name" -type f -print | head -n 1)" ] || return 0
+        [ "$(find "$here" "$root/reference/src" "$root/fast/src" "$out/link" -newer "$out/$name" -type f -print | head -n 1)" ] || return 0
     fi
     mkdir -p "$out/link" && cp "$archive" "$out/link/libf24.a" || exit 2
     # shellcheck disable=SC2086
-    "$rustc" $for_x86 --edition 2021 -C opt-level=3 --crate-type rlib --crate-name reference -o "$out/libreference.rlib" "$root/reference/src/lib.rs" &&
-        "$rustc" $for_x86 --edition 2021 -C opt-level=3 --crate-name "$name" --extern "reference=$out/libreference.rlib" -L "native=$out/link" -o "$out/$name" "$here/src/$name.rs" ||
+    judges "$out" $for_x86 &&
+        "$rustc" $for_x86 --edition 2021 -C opt-level=3 --crate-name "$name" --extern "reference=$out/libreference.rlib" --extern "fast=$out/libfast.rlib" -L "native=$out/link" -o "$out/$name" "$here/src/$name.rs" ||
         fail "$name does not compile"
 }
 
 # compile_alone NAME: the same for this machine and without the library, in whose place the reference stands.
 compile_alone() {
     need rustc rustc
+    rustc=rustc
     mkdir -p "$out/alone" || exit 2
-    rustc --edition 2021 -C opt-level=3 --crate-type rlib --crate-name reference -o "$out/alone/libreference.rlib" "$root/reference/src/lib.rs" &&
-        rustc --edition 2021 -C opt-level=3 --cfg stand_in --crate-name "$1" --extern "reference=$out/alone/libreference.rlib" -o "$out/alone/$1" "$here/src/$1.rs" ||
+    judges "$out/alone" &&
+        "$rustc" --edition 2021 -C opt-level=3 --cfg stand_in --crate-name "$1" --extern "reference=$out/alone/libreference.rlib" --extern "fast=$out/alone/libfast.rlib" -o "$out/alone/$1" "$here/src/$1.rs" ||
         fail "$1 does not compile"
 }
 

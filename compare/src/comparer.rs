@@ -1,11 +1,14 @@
 //! Makes each call on the library and on the reference, from the same bytes,
-//! and compares everything that either leaves behind.
+//! and compares everything that either leaves behind. The fast judge, which
+//! judges and no more, is held to the reference's judgement.
 
 use crate::calls::{Call, MOST_NUMBERS, NO_ROOM};
 use crate::ffi;
 use crate::lent::{Lent, Place};
+use crate::quick;
 use crate::rival;
 use crate::rng::Rng;
+use std::ops::Range;
 
 /// More room than any answer needs.
 const MOST_ROOM: usize = MOST_NUMBERS + 5;
@@ -19,13 +22,14 @@ pub struct Left {
     pub flow: Vec<u8>,
 }
 
-/// A call on which the two sides are not the same.
+/// A call on which the sides are not the same.
 pub struct Difference {
     pub call: Call,
     pub flow: Vec<u8>,
     pub room: Vec<u64>,
-    pub library: Left,
     pub reference: Left,
+    /// Those that were compared with it, with their names.
+    pub others: Vec<(&'static str, Left)>,
     /// Bytes or numbers beside the lent ones were written.
     pub beside: bool,
 }
@@ -37,6 +41,7 @@ pub struct Comparer {
     lent_room: Lent,
     after: Vec<u8>,
     room: Vec<u64>,
+    quick_room: Vec<u64>,
     pub tally: Tally,
 }
 
@@ -47,6 +52,7 @@ impl Comparer {
             lent_room: Lent::new(8 * MOST_ROOM),
             after: Vec::new(),
             room: Vec::new(),
+            quick_room: Vec::new(),
             tally: Tally::new(),
         }
     }
@@ -75,14 +81,47 @@ impl Comparer {
 
     fn compare_with(&mut self, rng: &mut Rng, call: Call, flow: &[u8], numbers: usize) -> Compared<u64> {
         assert!(flow.len() <= MOST_FLOW && numbers <= MOST_ROOM);
+        if matches!(call, Call::Correct { .. }) {
+            same_judgement(flow)?;
+        }
         let (first, step) = (rng.next(), rng.next() | 1);
-        let before = |k: u64| first.wrapping_add(k.wrapping_mul(step));
-        self.room.clear();
-        self.room.extend((0..numbers as u64).map(before));
+        let before: Vec<u64> = (0..numbers as u64).map(|k| first.wrapping_add(k.wrapping_mul(step))).collect();
+
+        self.room.clone_from(&before);
         self.after.clear();
         self.after.extend_from_slice(flow);
         let code = rival::call(&call, &mut self.after, &mut self.room);
+        let quick = self.ask_quick(&call, flow, &before);
+        let (library, lent) = self.ask_library(rng, &call, flow, &before);
 
+        let quick_same = quick.map_or(true, |quick| quick == code && self.quick_room == self.room);
+        let beside = !self.lent.kept(&lent.flow) || !self.lent_room.kept(&lent.room);
+        let room = self.lent_room.numbers(&lent.room).to_vec();
+        let left = self.lent.bytes(&lent.flow);
+        if library == code && room == self.room && *left == self.after[..] && quick_same && !beside {
+            self.tally.count(&call, code);
+            return Ok(code);
+        }
+        let mut others = vec![(ffi::NAME, Left { code: library, room, flow: left.to_vec() })];
+        if let Some(code) = quick {
+            others.push((quick::NAME, Left { code, room: self.quick_room.clone(), flow: flow.to_vec() }));
+        }
+        let reference = Left { code, room: self.room.clone(), flow: self.after.clone() };
+        Err(Box::new(Difference { call, flow: flow.to_vec(), room: before, reference, others, beside }))
+    }
+
+    /// The fast judge's answer where the call is a judgement.
+    fn ask_quick(&mut self, call: &Call, flow: &[u8], before: &[u64]) -> Option<u64> {
+        if *call != Call::Judge {
+            return None;
+        }
+        self.quick_room.clear();
+        self.quick_room.extend_from_slice(before);
+        Some(quick::judge(flow, &mut self.quick_room))
+    }
+
+    /// The library's answer, and what was lent to it.
+    fn ask_library(&mut self, rng: &mut Rng, call: &Call, flow: &[u8], before: &[u64]) -> (u64, Parts) {
         let place = match rng.below(4) {
             0 => Place::Start,
             1 => Place::Within(1 + rng.place(63)),
@@ -90,32 +129,36 @@ impl Comparer {
         };
         let part = self.lent.part(flow.len(), place);
         let place = if rng.one_in(2) { Place::End } else { Place::Start };
-        let room_part = self.lent_room.part(8 * numbers, place);
+        let room_part = self.lent_room.part(8 * before.len(), place);
         let lent = self.lent.bytes(&part);
         lent.copy_from_slice(flow);
         let room = self.lent_room.numbers(&room_part);
-        room.iter_mut().zip(0..).for_each(|(number, k)| *number = before(k));
-        let library = ffi::call(&call, lent, room);
-
-        let same = library == code && *room == self.room[..] && *lent == self.after[..];
-        let beside = !self.lent.kept(&part) || !self.lent_room.kept(&room_part);
-        if same && !beside {
-            self.tally.count(&call, code);
-            return Ok(code);
-        }
-        Err(Box::new(Difference {
-            call,
-            flow: flow.to_vec(),
-            room: (0..numbers as u64).map(before).collect(),
-            library: Left {
-                code: library,
-                room: self.lent_room.numbers(&room_part).to_vec(),
-                flow: self.lent.bytes(&part).to_vec(),
-            },
-            reference: Left { code, room: self.room.clone(), flow: self.after.clone() },
-            beside,
-        }))
+        room.copy_from_slice(before);
+        (ffi::call(call, lent, room), Parts { flow: part, room: room_part })
     }
+}
+
+/// Where the flow and the room lie that were lent to the library.
+struct Parts {
+    flow: Range<usize>,
+    room: Range<usize>,
+}
+
+/// Compares the fast judge with the reference alone, on a flow that is about to
+/// be corrected and may not have been judged by itself.
+fn same_judgement(flow: &[u8]) -> Compared<()> {
+    let before = vec![0; MOST_NUMBERS];
+    let (mut room, mut quick_room) = (before.clone(), before.clone());
+    let mut after = flow.to_vec();
+    let code = rival::call(&Call::Judge, &mut after, &mut room);
+    let quick = quick::judge(flow, &mut quick_room);
+    if quick == code && quick_room == room {
+        return Ok(());
+    }
+    let others = vec![(quick::NAME, Left { code: quick, room: quick_room, flow: flow.to_vec() })];
+    let reference = Left { code, room, flow: after };
+    let (call, flow) = (Call::Judge, flow.to_vec());
+    Err(Box::new(Difference { call, flow, room: before, reference, others, beside: false }))
 }
 
 /// How often each call was answered how.

@@ -9,6 +9,7 @@ mod comparer;
 mod correction;
 mod ffi;
 mod lent;
+mod quick;
 mod report;
 mod rival;
 mod rng;

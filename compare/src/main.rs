@@ -1,4 +1,5 @@
-//! Compares the static library with the reference on seeded random flows.
+//! Compares the static library and the fast judge with the reference on seeded
+//! random flows.
 
 #![allow(unknown_lints, unexpected_cfgs)]
 
@@ -10,6 +11,7 @@ mod damage;
 mod ffi;
 mod frames;
 mod lent;
+mod quick;
 mod report;
 mod rival;
 mod rng;
@@ -64,7 +66,7 @@ fn main() -> ExitCode {
         Err(Failure::Seldom) => ExitCode::from(1),
         Err(Failure::Differs(case, difference)) => {
             let folder = folder();
-            eprintln!("\nDIFFERENCE between the {} and the reference", ffi::NAME);
+            eprintln!("\nDIFFERENCE between the {} and the reference", report::differing(&difference));
             match report::write(&folder, &case, &difference) {
                 Ok(text) => eprintln!("{text}files: {}", folder.display()),
                 Err(error) => eprintln!("case: {case}\n{}: {error}", folder.display()),

@@ -9,24 +9,45 @@ use std::fs;
 use std::io;
 use std::path::Path;
 
-/// Writes `flow`, `after-library`, `after-reference` and `difference.txt`.
+/// Writes `flow`, `after-reference`, `after-library` where the library was
+/// called, and `difference.txt`.
 pub fn write(folder: &Path, case: &str, difference: &Difference) -> io::Result<String> {
     fs::create_dir_all(folder)?;
     fs::write(folder.join("flow"), &difference.flow)?;
-    fs::write(folder.join("after-library"), &difference.library.flow)?;
     fs::write(folder.join("after-reference"), &difference.reference.flow)?;
+    if let Some((_, library)) = difference.others.iter().find(|(name, _)| *name == ffi::NAME) {
+        fs::write(folder.join("after-library"), &library.flow)?;
+    }
     let text = text(case, difference);
     fs::write(folder.join("difference.txt"), &text)?;
     Ok(text)
 }
 
+/// The sides that are not as the reference is.
+pub fn differing(difference: &Difference) -> String {
+    let reference = &difference.reference;
+    let names: Vec<&str> = difference
+        .others
+        .iter()
+        .filter(|(_, left)| left.code != reference.code || left.room != reference.room || left.flow != reference.flow)
+        .map(|&(name, _)| name)
+        .collect();
+    if names.is_empty() {
+        // Nothing but bytes beside the memory lent to it.
+        return ffi::NAME.to_string();
+    }
+    names.join(" and the ")
+}
+
 fn text(case: &str, difference: &Difference) -> String {
     let mut text = String::new();
-    let Difference { call, flow, room, library, reference, beside } = difference;
+    let Difference { call, flow, room, reference, others, beside } = difference;
     let _ = writeln!(text, "case: {case}");
+    let _ = writeln!(text, "differs from the reference: the {}", differing(difference));
     let _ = writeln!(text, "call: {call}, flow of {} bytes, room for {} numbers", flow.len(), room.len());
     let _ = writeln!(text, "room before: {room:?}");
-    for (name, Left { code, room, flow: after }) in [(ffi::NAME, library), ("reference", reference)] {
+    let sides = others.iter().map(|(name, left)| (*name, left)).chain([("reference", reference)]);
+    for (name, Left { code, room, flow: after }) in sides {
         let _ = writeln!(text, "{name}: answers {code}, room after {room:?}");
         let changed: Vec<usize> = (0..flow.len()).filter(|&at| flow[at] != after[at]).collect();
         match (changed.first(), changed.last()) {
@@ -39,9 +60,11 @@ fn text(case: &str, difference: &Difference) -> String {
             }
         }
     }
-    if let Some(at) = (0..flow.len()).find(|&at| library.flow[at] != reference.flow[at]) {
-        let (one, other) = (library.flow[at], reference.flow[at]);
-        let _ = writeln!(text, "first byte that differs after the call: {}, {one} and {other}", place(at));
+    for (name, left) in others {
+        if let Some(at) = (0..flow.len()).find(|&at| left.flow[at] != reference.flow[at]) {
+            let (one, other) = (left.flow[at], reference.flow[at]);
+            let _ = writeln!(text, "{name}: first byte that differs after the call: {}, {one} and {other}", place(at));
+        }
     }
     if *beside {
         let _ = writeln!(text, "bytes beside the lent memory were written");

@@ -47,7 +47,8 @@ pub fn call(call: &Call, flow: &mut [u8], room: &mut [u64]) -> u64 {
     u64::from(number)
 }
 
-fn put_sums(room: &mut [u64], sums: &[(u64, u64); 5]) {
+/// Writes the five sections' sums, debit and credit in turn.
+pub fn put_sums(room: &mut [u64], sums: &[(u64, u64); 5]) {
     for (pair, &(debit, credit)) in room.chunks_exact_mut(2).zip(sums) {
         pair[0] = debit;
         pair[1] = credit;
