@@ -70,13 +70,24 @@ impl Comparer {
     /// Compares a call with room that is enough, or more than that.
     pub fn compare(&mut self, rng: &mut Rng, call: Call, flow: &[u8]) -> Compared<u64> {
         let numbers = call.needs() + if rng.one_in(2) { 0 } else { rng.place(5) };
-        self.compare_with(rng, call, flow, numbers)
+        self.tallied(rng, call, flow, numbers)
     }
 
     /// Compares a call with too little room.
     pub fn compare_short(&mut self, rng: &mut Rng, call: Call, flow: &[u8]) -> Compared<()> {
         let numbers = rng.place(call.needs());
-        self.compare_with(rng, call, flow, numbers).map(drop)
+        self.tallied(rng, call, flow, numbers).map(drop)
+    }
+
+    /// Compares a judgement that no tally counts.
+    pub fn compare_untallied(&mut self, rng: &mut Rng, flow: &[u8]) -> Compared<u64> {
+        self.compare_with(rng, Call::Judge, flow, Call::Judge.needs())
+    }
+
+    fn tallied(&mut self, rng: &mut Rng, call: Call, flow: &[u8], numbers: usize) -> Compared<u64> {
+        let code = self.compare_with(rng, call, flow, numbers)?;
+        self.tally.count(&call, code);
+        Ok(code)
     }
 
     fn compare_with(&mut self, rng: &mut Rng, call: Call, flow: &[u8], numbers: usize) -> Compared<u64> {
@@ -99,7 +110,6 @@ impl Comparer {
         let room = self.lent_room.numbers(&lent.room).to_vec();
         let left = self.lent.bytes(&lent.flow);
         if library == code && room == self.room && *left == self.after[..] && quick_same && !beside {
-            self.tally.count(&call, code);
             return Ok(code);
         }
         let mut others = vec![(ffi::NAME, Left { code: library, room, flow: left.to_vec() })];

@@ -11,6 +11,7 @@ mod damage;
 mod ffi;
 mod frames;
 mod lent;
+mod probe;
 mod quick;
 mod report;
 mod rival;
@@ -200,6 +201,19 @@ fn flow_case(comparer: &mut Comparer, pool: &Pool, seed: u64, index: u64, shapes
     if rng.one_in(16) {
         let call = if rng.one_in(3) { Call::Judge } else { correction::anything(&mut rng) };
         comparer.compare_short(&mut rng, call, &flow)?;
+    }
+    if code == 0 {
+        probes(comparer, &flow, seed, index)?;
+    }
+    Ok(())
+}
+
+/// The flow was accepted: a few others close to it are judged as well.
+fn probes(comparer: &mut Comparer, flow: &[u8], seed: u64, index: u64) -> Compared<()> {
+    let mut rng = Rng::new(seed, 8, index);
+    for _ in 0..4 {
+        let near = probe::probe(&mut rng, flow);
+        comparer.compare_untallied(&mut rng, &near)?;
     }
     Ok(())
 }

@@ -1,0 +1,88 @@
+//! An accepted flow with one thing changed, at the places where a judge that
+//! reads whole words goes wrong: the characters beside the digits, the ends of
+//! fields, single digits, bytes at the edge of what is allowed. Probes are made
+//! from random numbers of their own, so that the flows beside them are what
+//! they are without them, and are not tallied.
+
+use crate::columns::{Kind::*, *};
+use crate::rng::Rng;
+use crate::sound::put;
+
+/// The flow, which was accepted, with one change.
+pub fn probe(rng: &mut Rng, accepted: &[u8]) -> Vec<u8> {
+    let mut flow = accepted.to_vec();
+    let records = flow.len() / RECORD;
+    let at = rng.place(records);
+    let record = &mut flow[at * RECORD..(at + 1) * RECORD];
+    match rng.below(5) {
+        0 => beside_digits(rng, record),
+        1 => record[edge(rng, RECORD)] = rng.pick(&[0, 31, 127, 128, 160, 255]),
+        2 => wrong_number(rng, record),
+        3 => one_digit(rng, &mut flow),
+        _ => {
+            // One record too many, which may have a bad byte besides.
+            flow.extend_from_slice(&[b' '; RECORD]);
+            if rng.one_in(2) {
+                flow[records * RECORD + edge(rng, RECORD)] = rng.pick(&[31, 127]);
+            }
+        }
+    }
+    flow
+}
+
+/// The kind of a record of an accepted flow.
+fn kind(record: &[u8]) -> Option<Kind> {
+    let same = |kind: &Kind| {
+        let mut subtype = [0; 2];
+        let named = kind.subtype().map_or(true, |number| {
+            put(&mut subtype, 1, 2, number);
+            record[SUBTYPE - 1..=SUBTYPE] == subtype
+        });
+        record[TYPE - 1..=TYPE] == kind.type_bytes() && named
+    };
+    KINDS.iter().copied().find(same)
+}
+
+/// A place of so many: the first, the last, or any.
+fn edge(rng: &mut Rng, places: usize) -> usize {
+    match rng.below(3) {
+        0 => 0,
+        1 => places - 1,
+        _ => rng.place(places),
+    }
+}
+
+/// A character that is no digit in a numeric field, mostly one beside them.
+fn beside_digits(rng: &mut Rng, record: &mut [u8]) {
+    if let Some(kind) = kind(record) {
+        let (start, width) = rng.pick(&kind.numeric());
+        record[start - 1 + edge(rng, width)] = rng.pick(b"//::;? @p~");
+    }
+}
+
+/// Another digit in one place of the delega number.
+fn wrong_number(rng: &mut Rng, record: &mut [u8]) {
+    if !matches!(kind(record), Some(Head | Tail) | None) {
+        let digit = &mut record[DELEGA - 1 + rng.place(COUNT)];
+        *digit = b'0' + (*digit - b'0' + rng.between(1, 9) as u8) % 10;
+    }
+}
+
+/// A line of zeros but for one digit, or with none.
+fn one_digit(rng: &mut Rng, flow: &mut [u8]) {
+    let lines: Vec<(usize, usize)> = flow
+        .chunks_exact(RECORD)
+        .enumerate()
+        .filter_map(|(at, record)| match kind(record) {
+            Some(Line(section)) => Some((at, section)),
+            _ => None,
+        })
+        .collect();
+    let (at, section) = rng.pick(&lines);
+    let start = at * RECORD + SECTIONS[section].debit - 1;
+    let amounts = &mut flow[start..start + 2 * AMOUNT];
+    amounts.fill(b'0');
+    if !rng.one_in(8) {
+        amounts[rng.place(2 * AMOUNT)] = b'0' + rng.between(1, 9) as u8;
+    }
+}
