@@ -1,61 +1,37 @@
-//! What judging costs: the library, the reference, and two plain passes over
-//! the same bytes. `count` makes one thing a number of times, for a counter of
-//! instructions; `clock` takes the time of all, in turns.
+//! What judging costs: the library, the reference, the fast judge, and two
+//! plain passes over the same bytes; and what the other calls cost the library
+//! and the reference. `count` and `call` make one thing a number of times, for
+//! a counter of instructions; `clock` takes the time of all, in turns; `memory`
+//! measures the stack and the heap of one call.
 
 #![allow(dead_code, unknown_lints, unexpected_cfgs)]
 
 mod calls;
 mod columns;
 mod ffi;
+mod flows;
+mod memory;
+mod quick;
 mod rival;
 mod rng;
 mod sound;
 
 use calls::{Call, MOST_NUMBERS};
-use columns::*;
-use rng::Rng;
-use sound::{Amounts, DelegaPlan, Filler, Plan, Pool, SectionPlan};
+use columns::RECORD;
+use flows::{Spot, CASES};
 use std::process::ExitCode;
 use std::time::Instant;
 
 const USAGE: &str = "usage:
   bench cases                     names the cases: name, records, answer, record and position of a refusal
-  bench count WHO CASE TIMES      WHO is library, reference, characters or sum
-  bench clock ROUNDS              times them all, in turns: nanoseconds per flow, the median of the rounds";
+  bench count WHO CASE TIMES      judges; WHO is library, reference, fast, characters or sum
+  bench call WHO CALL TIMES       on the flow of 546 records; WHO is library or reference, CALL delega, find or correct
+  bench clock ROUNDS              times them all, in turns: nanoseconds per flow, the median of the rounds
+  bench memory                    bytes of stack and of heap that one call takes on each case";
 
-const CASES: [&str; 4] = ["8", "80", "546", "late"];
-const WHO: [&str; 4] = ["library", "reference", "characters", "sum"];
+const WHO: [&str; 5] = ["library", "reference", "fast", "characters", "sum"];
 
-/// The flow of a case: so many records, accepted; or 546 with a wrong sum in
-/// the last, so that every record is judged before it is refused.
-fn flow(case: &str) -> Option<Vec<u8>> {
-    let mut rng = Rng::new(24, 0, 0);
-    let pool = Pool::new(24);
-    let plan = match case {
-        "8" => Plan {
-            deleghe: vec![DelegaPlan {
-                sections: vec![SectionPlan { section: 2, lines: vec![(10_000, 0), (0, 2500)] }],
-                receipts: &[],
-            }],
-            date: *b"100625",
-            name: *b"F24-20250610-001    ",
-            filler: Filler::Mixed,
-        },
-        "80" => sound::plan_of(&mut rng, 80, Amounts::Middle),
-        "546" | "late" => sound::plan_of(&mut rng, MOST_RECORDS, Amounts::Middle),
-        _ => return None,
-    };
-    let mut flow = sound::write(&mut rng, &pool, &plan);
-    if case == "late" {
-        let last = flow.kinds.len() - 1;
-        let tail = flow.record(last);
-        let sum = sound::get(tail, TAIL_SUM, AMOUNT);
-        sound::put(tail, TAIL_SUM, AMOUNT, sum + 1);
-    }
-    Some(flow.bytes)
-}
-
-type Work = fn(&mut [u8], &mut [u64]) -> u64;
+pub type Work = fn(&mut [u8], &mut [u64]) -> u64;
 
 #[inline(never)]
 fn library(flow: &mut [u8], room: &mut [u64]) -> u64 {
@@ -65,6 +41,11 @@ fn library(flow: &mut [u8], room: &mut [u64]) -> u64 {
 #[inline(never)]
 fn reference_judge(flow: &mut [u8], room: &mut [u64]) -> u64 {
     rival::call(&Call::Judge, flow, room)
+}
+
+#[inline(never)]
+fn fast_judge(flow: &mut [u8], room: &mut [u64]) -> u64 {
+    quick::judge(flow, room)
 }
 
 /// The character test alone.
@@ -84,6 +65,7 @@ fn work(who: &str) -> Option<Work> {
     match who {
         "library" => Some(library),
         "reference" => Some(reference_judge),
+        "fast" => Some(fast_judge),
         "characters" => Some(characters),
         "sum" => Some(sum),
         _ => None,
@@ -120,52 +102,77 @@ fn main() -> ExitCode {
 
 fn run(words: &[&str]) -> Option<()> {
     match *words {
-        ["cases"] => {
-            for case in CASES {
-                let mut flow = flow(case)?;
-                let records = flow.len() / RECORD;
-                let mut room = [0; MOST_NUMBERS];
-                let code = library(&mut flow, &mut room);
-                let mut again = [0; MOST_NUMBERS];
-                let same = reference_judge(&mut flow, &mut again) == code && room == again;
-                assert!(same, "the two sides differ on case {case}");
-                if code == 0 {
-                    println!("{case} {records} accepted");
-                } else {
-                    println!("{case} {records} refused {code} {} {}", room[0], room[1]);
-                }
-            }
-            Some(())
-        }
+        ["cases"] => cases(),
         ["count", who, case, times] => {
-            repeat(work(who)?, &mut flow(case)?, times.parse().ok()?);
+            repeat(work(who)?, &mut flows::flow(case)?, times.parse().ok()?);
             Some(())
         }
-        ["clock", rounds] => {
-            clock(rounds.parse().ok()?);
-            Some(())
-        }
+        ["call", who, call, times] => calls(who, call, times.parse().ok()?),
+        ["clock", rounds] => clock(rounds.parse().ok()?),
+        ["memory"] => memory_of_all(),
         _ => None,
     }
 }
 
-/// Prints a line for each case: its name, then the four medians.
-fn clock(rounds: usize) {
+/// Prints a line for each case, on which all three judges must agree.
+fn cases() -> Option<()> {
     for case in CASES {
-        let mut flow = match flow(case) {
-            Some(flow) => flow,
-            None => continue,
-        };
+        let mut flow = flows::flow(case)?;
+        let records = flow.len() / RECORD;
+        let mut room = [0; MOST_NUMBERS];
+        let code = library(&mut flow, &mut room);
+        for (name, judge) in [("reference", reference_judge as Work), ("fast judge", fast_judge)] {
+            let mut again = [0; MOST_NUMBERS];
+            let same = judge(&mut flow, &mut again) == code && room == again;
+            assert!(same, "the library and the {name} differ on case {case}");
+        }
+        if code == 0 {
+            println!("{case} {records} accepted");
+        } else {
+            println!("{case} {records} refused {code} {} {}", room[0], room[1]);
+        }
+    }
+    Some(())
+}
+
+/// Makes a call so many times on the flow of 546 records. A correction goes to
+/// other amounts and back, in turns.
+fn calls(who: &str, call: &str, times: u64) -> Option<()> {
+    let (mut flow, spot) = flows::middle();
+    let Spot { delega, subtype, place, amounts: (debit, credit) } = spot;
+    let correct = |debit| Call::Correct { delega, subtype, place, debit, credit };
+    let turns = match call {
+        "delega" => [Call::Delega { number: delega }; 2],
+        "find" => [Call::Find { delega, subtype, place }; 2],
+        "correct" => [correct(debit + 12_345), correct(debit)],
+        _ => return None,
+    };
+    let side: fn(&Call, &mut [u8], &mut [u64]) -> u64 = match who {
+        "library" => ffi::call,
+        "reference" => rival::call,
+        _ => return None,
+    };
+    let mut room = [0; MOST_NUMBERS];
+    for turn in 0..times {
+        let code = opaque(side)(&opaque(turns[turn as usize % 2]), &mut flow, &mut room);
+        assert!(code == 0, "{call} by the {who} is refused {code}");
+    }
+    Some(())
+}
+
+/// Prints a line for each case: its name, then the medians.
+fn clock(rounds: usize) -> Option<()> {
+    for case in CASES {
+        let mut flow = flows::flow(case)?;
         // About the same number of records in each turn.
         let times = 40_000 * RECORD as u64 / flow.len() as u64;
-        let mut taken: [Vec<f64>; 4] = Default::default();
+        let mut taken: [Vec<f64>; WHO.len()] = Default::default();
         for _ in 0..rounds.max(1) {
             for (who, taken) in WHO.iter().zip(taken.iter_mut()) {
-                if let Some(work) = work(who) {
-                    let start = Instant::now();
-                    repeat(work, &mut flow, times);
-                    taken.push(start.elapsed().as_nanos() as f64 / times as f64);
-                }
+                let work = work(who)?;
+                let start = Instant::now();
+                repeat(work, &mut flow, times);
+                taken.push(start.elapsed().as_nanos() as f64 / times as f64);
             }
         }
         print!("{case}");
@@ -175,4 +182,19 @@ fn clock(rounds: usize) {
         }
         println!();
     }
+    Some(())
+}
+
+/// Prints a line for each case: its name, then stack and heap of each judge.
+fn memory_of_all() -> Option<()> {
+    for case in CASES {
+        let mut flow = flows::flow(case)?;
+        print!("{case}");
+        for who in &WHO[..3] {
+            let work = work(who)?;
+            print!(" {} {}", memory::stack(work, &mut flow), memory::heap(work, &mut flow));
+        }
+        println!();
+    }
+    Some(())
 }

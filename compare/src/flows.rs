@@ -1,0 +1,96 @@
+//! The flows that are measured.
+
+use crate::columns::*;
+use crate::rng::Rng;
+use crate::sound::{self, Amounts, DelegaPlan, Filler, Flow, Plan, Pool, SectionPlan};
+
+pub const CASES: [&str; 6] = ["8", "80", "546", "deleghe", "last-byte", "tail"];
+
+/// The most deleghe that a flow can hold: five records each.
+const MOST_DELEGHE: usize = (MOST_RECORDS - 2) / 5;
+
+/// The flow of a case.
+pub fn flow(case: &str) -> Option<Vec<u8>> {
+    let mut rng = Rng::new(24, 0, 0);
+    let plan = match case {
+        "8" => printed(),
+        "80" => sound::plan_of(&mut rng, 80, Amounts::Middle),
+        "546" | "last-byte" | "tail" => sound::plan_of(&mut rng, MOST_RECORDS, Amounts::Middle),
+        "deleghe" => most_deleghe(&mut rng),
+        _ => return None,
+    };
+    let mut flow = sound::write(&mut rng, &Pool::new(24), &plan);
+    match case {
+        "last-byte" => last_record(&mut flow)[RECORD - 1] = 127,
+        "tail" => {
+            let tail = last_record(&mut flow);
+            let sum = sound::get(tail, TAIL_SUM, AMOUNT);
+            sound::put(tail, TAIL_SUM, AMOUNT, sum + 1);
+        }
+        _ => (),
+    }
+    Some(flow.bytes)
+}
+
+fn last_record(flow: &mut Flow) -> &mut [u8] {
+    let last = flow.kinds.len() - 1;
+    flow.record(last)
+}
+
+/// Document 01's printed example.
+fn printed() -> Plan {
+    one_by_one(vec![vec![SectionPlan { section: 2, lines: vec![(10_000, 0), (0, 2500)] }]])
+}
+
+/// As many deleghe as a flow can hold, each with one line in one section, the
+/// five sections in turn; the last has as many lines as make up 546 records.
+fn most_deleghe(rng: &mut Rng) -> Plan {
+    let mut deleghe: Vec<Vec<SectionPlan>> = (0..MOST_DELEGHE)
+        .map(|number| {
+            let section = number % SECTIONS.len();
+            let debit = rng.between(100, 10_000_000);
+            let credit = if section == IDENTIFYING { 0 } else { debit / 4 };
+            vec![SectionPlan { section, lines: vec![(debit, credit)] }]
+        })
+        .collect();
+    let left = MOST_RECORDS - 2 - 5 * MOST_DELEGHE;
+    deleghe[MOST_DELEGHE - 1] = vec![SectionPlan { section: 0, lines: vec![(2500, 0); 1 + left] }];
+    one_by_one(deleghe)
+}
+
+fn one_by_one(deleghe: Vec<Vec<SectionPlan>>) -> Plan {
+    Plan {
+        deleghe: deleghe.into_iter().map(|sections| DelegaPlan { sections, receipts: &[] }).collect(),
+        date: *b"100625",
+        name: *b"F24-20250610-001    ",
+        filler: Filler::Mixed,
+    }
+}
+
+/// A line and its amounts.
+pub struct Spot {
+    pub delega: u64,
+    pub subtype: u64,
+    pub place: u64,
+    pub amounts: (u64, u64),
+}
+
+/// The flow of 546 records, and the first line in its second half.
+pub fn middle() -> (Vec<u8>, Spot) {
+    let mut rng = Rng::new(24, 0, 0);
+    let plan = sound::plan_of(&mut rng, MOST_RECORDS, Amounts::Middle);
+    let mut flow = sound::write(&mut rng, &Pool::new(24), &plan);
+    let is_line = |&at: &usize| matches!(flow.kinds[at], Kind::Line(_));
+    let at = (MOST_RECORDS / 2..MOST_RECORDS).find(is_line).expect("the second half has a line");
+    let section = flow.kinds[at].section().expect("a line is in a section");
+    let first = (0..at).rev().find(|&before| flow.kinds[before] != flow.kinds[at]).map_or(0, |before| before + 1);
+    let Section { line, debit, credit, .. } = SECTIONS[section];
+    let record = flow.record(at);
+    let spot = Spot {
+        delega: sound::get(record, DELEGA, COUNT),
+        subtype: line,
+        place: (at - first + 1) as u64,
+        amounts: (sound::get(record, debit, AMOUNT), sound::get(record, credit, AMOUNT)),
+    };
+    (flow.bytes, spot)
+}
