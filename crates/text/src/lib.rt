@@ -100,11 +100,11 @@ fn quarters_allowed(part: &[u8], quarter: usize) -> bool
     most <= 126
 }
 
-// The same as `all_allowed`, for a long part: its four quarters, and what is left behind them.
+// The same as `all_allowed`, for a long part: four quarters of whole sixteens, and what is left behind them.
 pub fn long_allowed(part: &[u8]) -> bool
     ensures { λ r. ⌜ r ≡ allAllowed (now (part .entry)) ⌝ }
 {
-    let quarter = part.len() / 4;
+    let quarter = part.len() / 64 * 16;
     if quarters_allowed(part, quarter) {
         return all_allowed(&part[quarter * 4..]);
     }

@@ -8,6 +8,9 @@ use borrow.Author.Needs.{needs}
 use Rattle.text.proofs.long_allowed.Statement.{statement}
 use Rattle.text.proofs.long_allowed.Tie as tie
 
+mul-quarter : tie.Need-mul-quarter
+mul-quarter c = search needs
+
 quarters-allowed-requires : tie.Need-quarters-allowed-requires
 quarters-allowed-requires c κs = search needs
 
@@ -29,17 +32,18 @@ all-allowed-requires c κs = search needs
 returns : tie.Need-returns
 returns c =
     let l = c .before .before .before .before .before .args .part .now in
-    c .all-allowed .ensures ∙ sym (all-rest l (length l / 4 * 4) (omega arith) ∙ rw (sym (c .before .before .before .quarters-allowed .ensures) ∙ c .before .before .if1 .taken))
+    c .all-allowed .ensures ∙ sym (all-rest l (length l / 64 * 16 * 4) (omega arith) ∙ rw (sym (c .before .before .before .quarters-allowed .ensures) ∙ c .before .before .if1 .taken))
 
 returns-2 : tie.Need-returns-2
 returns-2 c =
     let l = c .before .before .before .args .part .now in
-    sym (all-rest l (length l / 4 * 4) (omega arith) ∙ rw (sym (c .before .quarters-allowed .ensures) ∙ c .if1 .left))
+    sym (all-rest l (length l / 64 * 16 * 4) (omega arith) ∙ rw (sym (c .before .quarters-allowed .ensures) ∙ c .if1 .left))
 
 pub long-allowed-spec : {M : Type 1} → statement M
 long-allowed-spec =
     tie.close
     (tie.spec
+    mul-quarter
     quarters-allowed-requires
     mul-all-allowed
     sub-all-allowed
