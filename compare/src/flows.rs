@@ -4,7 +4,7 @@ use crate::columns::*;
 use crate::rng::Rng;
 use crate::sound::{self, Amounts, DelegaPlan, Filler, Flow, Plan, Pool, SectionPlan};
 
-pub const CASES: [&str; 6] = ["8", "80", "546", "deleghe", "last-byte", "tail"];
+pub const CASES: [&str; 7] = ["8", "80", "546", "wide", "deleghe", "last-byte", "tail"];
 
 /// The most deleghe that a flow can hold: five records each.
 const MOST_DELEGHE: usize = (MOST_RECORDS - 2) / 5;
@@ -16,6 +16,7 @@ pub fn flow(case: &str) -> Option<Vec<u8>> {
         "8" => printed(),
         "80" => sound::plan_of(&mut rng, 80, Amounts::Middle),
         "546" | "last-byte" | "tail" => sound::plan_of(&mut rng, MOST_RECORDS, Amounts::Middle),
+        "wide" => sound::plan_of(&mut rng, MOST_RECORDS, Amounts::Wide),
         "deleghe" => most_deleghe(&mut rng),
         _ => return None,
     };

@@ -19,7 +19,7 @@ use Rattle.layout.specs.Kinds.{typeOf, kindOf, typeIn, kindIn}
 use Rattle.layout.specs.Fields.{amountAt, bytesOf, valueOf}
 use Rattle.layout.proofs.Table.{row-rule}
 use Rattle.rebalance.proofs.Written.{byte-of}
-use Rattle.rebalance.proofs.Columns.{line-within}
+use Rattle.layout.proofs.InTable.{line-within}
 
 -- The record of a line of section s with other amounts.
 unfoldable pub amended : ℕ → ℕ → ℕ → List ℕ → List ℕ

@@ -23,7 +23,7 @@ use Rattle.order.specs.Order.{nextStage}
 use Rattle.rules.specs.Step.{nextDeleghe, nextOf, next}
 use Rattle.rebalance.specs.Rebalance.{fitsAll, allFit, keptFault, Mendable}
 use Rattle.rebalance.proofs.Written.{both-true, digits-pass}
-use Rattle.rebalance.proofs.Columns.{line-within}
+use Rattle.layout.proofs.InTable.{line-within}
 use Rattle.rebalance.proofs.Emit.{kept-each, kept-all, allowed-of}
 use Rattle.rebalance.proofs.Weighed.{neither}
 use Rattle.rebalance.specs.Weigh.{negativeAt, anyNegative}

@@ -31,7 +31,8 @@ use Rattle.judge.specs.Flow.{recordsOf, headNameOf}
 use Rattle.judge.specs.Plain.{NoFault, Whole, stateAfter}
 use Rattle.judge.proofs.Accepted.{accepted-means-no-fault, carried-number}
 use Rattle.rebalance.specs.Rebalance.{startOf, widthOf, putAll, emit, rebalanced, clear, Sized, flat}
-use Rattle.rebalance.proofs.Columns.{line-within, Storing, plain, balance, payment, tail, storing}
+use Rattle.layout.proofs.InTable.{line-within}
+use Rattle.rebalance.proofs.Columns.{Storing, plain, balance, payment, tail, storing}
 use Rattle.rebalance.proofs.Emit.{kept-each, emit-same-stored, emit-plain, emit-outside, fault-kept, emit-own}
 use Rattle.rebalance.proofs.Rebalanced.{sized-rebalanced}
 use Rattle.rebalance.proofs.Judged.{sized-records, flat-records}

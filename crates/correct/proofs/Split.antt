@@ -24,7 +24,7 @@ use Rattle.judge.specs.Flow.{recordsOf, judged}
 use Rattle.judge.specs.Plain.{stateAfter}
 use Rattle.rebalance.specs.Rebalance.{Sized, flat}
 use Rattle.rebalance.proofs.Written.{both-true}
-use Rattle.rebalance.proofs.Columns.{line-within}
+use Rattle.layout.proofs.InTable.{line-within}
 use Rattle.rebalance.proofs.Flat.{length-flat, records-flat}
 use Rattle.rebalance.proofs.Judged.{sized-records, flat-records}
 use Rattle.find.specs.Line.{isLine, lineFrom, lineOfKind, lineOf}

@@ -23,7 +23,8 @@ use Rattle.find.specs.declared.Found.{Found}
 use Rattle.find.specs.declared.Found.the-variants as Answer
 use Rattle.find.specs.Line.{refusalFound, lineOf, orAbsent, foundIn}
 use Rattle.find.specs.NamedLine.{lineWith, countOf, NthLine}
-use Rattle.find.proofs.Subtypes.{Other, no-other, LineOrOther, line-or-other, named-row, row-named, line-row}
+use Rattle.find.proofs.Subtypes.{Other, no-other, LineOrOther, line-or-other, named-row, row-named}
+use Rattle.layout.proofs.InTable.{line-within}
 use Rattle.find.proofs.NthIn.{NthIn, countTo, counted-is-nth, nth-is-counted, none-counted}
 use Rattle.find.proofs.LinesSoFar.{lineIn, so-far-starts, search-counts}
 
@@ -36,7 +37,7 @@ module _ (d subtype : ℕ) (r : List ℕ) where
       go true q = let x = eqb-true t s q in rw x (eq-eqb _ _ (named-row subtype s e .1))
       go false q =
           ne-eqb _ _ (λ x.
-          let y : Line t ≡ Line s = sym (row-named t (line-row r t k)) ∙ (ap sectionKind x ∙ e) in
+          let y : Line t ≡ Line s = sym (row-named t (line-within r t k)) ∙ (ap sectionKind x ∙ e) in
           let z : t ≡ s = cc in
           eqb-false t s q z)
 
@@ -56,7 +57,7 @@ module _ (d subtype : ℕ) (r : List ℕ) where
     where
       go : LineOrOther (kindIn r) → lineWith d subtype r ≡ false
       go (inl x) =
-          let named = row-named (x .0) (line-row r (x .0) (x .1)) in
+          let named = row-named (x .0) (line-within r (x .0) (x .1)) in
           rw (x .1, ne-eqb (sectionAt (x .0) .«line_subtype») subtype (λ y. no-other (x .0) (rw (sym (ap sectionKind y) ∙ named) at o)))
       go (inr x) = no-line false _ (kindIn r) x
 

@@ -1,4 +1,4 @@
--- A record is a line or it is none; each subtype of lines names one section of the table, and a line is of a section of the table.
+-- A record is a line or it is none; each subtype of lines names one section of the table.
 use Prim.Native.Nat.{ℕ, zero, suc, _+_, _-_, _<_, _≤_}
 use mathlib.Core.Path.{_≡_, refl, sym, ap}
 use mathlib.Core.Bool.{Bool, true, false, cond}
@@ -11,17 +11,13 @@ use native.Mathlib.Nat.{sub-zero}
 use borrow.Author.Tests.{eqb-true}
 use lib.Dec.{eqb}
 use lib.ListN.{length, getD}
-use Rattle.text.specs.declared.Digits.{Digits}
-use Rattle.text.specs.declared.Digits.the-variants.{Number, NonDigit, TooLong}
 use Rattle.layout.specs.declared.Section.{Section}
-use Rattle.layout.specs.declared.RecordType.{RecordType}
-use Rattle.layout.specs.declared.RecordType.the-variants.{F4, T10, T20, T40, T50, EF, NoType}
 use Rattle.layout.specs.declared.Kind.{Kind}
 use Rattle.layout.specs.declared.Kind.the-variants.{Head, Taxpayer, Domicile, Line, Balance, Payment, Receipt, Addressee, Tail, Unknown}
 use Rattle.layout.proofs.Kind.{the-type}
 use Rattle.layout.proofs.OtherKinds.{but-line}
 use Rattle.layout.specs.Sections.{sections, noSection, sectionAt}
-use Rattle.layout.specs.Kinds.{ofLine, sectionKindFrom, sectionKind, paymentKind, kindOf, typeIn, subtypeIn, kindIn}
+use Rattle.layout.specs.Kinds.{sectionKindFrom, sectionKind}
 
 -- a record of this kind is no line
 abbrev pub Other : Kind → Type 0
@@ -85,35 +81,3 @@ row-named (suc (suc zero)) h = refl
 row-named (suc (suc (suc zero))) h = refl
 row-named (suc (suc (suc (suc zero)))) h = refl
 row-named (suc (suc (suc (suc (suc s))))) h = absurd (omega arith)
-
--- the section of a line, and 0 for a record that is none
-abbrev section : Kind → ℕ
-section k = ofLine 0 (λ s. s) k
-
-payment-row : (n s : ℕ) → paymentKind n ≡ Line s → s < 5
-unfolding paymentKind
-payment-row n s e = go (eqb n 1) (eqb n 2) (eqb n 3) e
-  where
-    go : (a b c : Bool) → cond a Payment (cond b Receipt (cond c Addressee Unknown)) ≡ Line s → s < 5
-    go true b c f = omega (arith, ap section f)
-    go false true c f = omega (arith, ap section f)
-    go false false true f = omega (arith, ap section f)
-    go false false false f = omega (arith, ap section f)
-
-kind-row : (t : RecordType) (m : Digits) (s : ℕ) → kindOf t m ≡ Line s → s < 5
-kind-row F4 m s e = omega (arith, ap section e)
-kind-row T10 m s e = omega (arith, ap section e)
-kind-row T20 m s e = omega (arith, ap section e)
-kind-row T40 (Number n) s e = named-row n s e .0
-kind-row T40 (NonDigit i) s e = omega (arith, ap section e)
-kind-row T40 TooLong s e = omega (arith, ap section e)
-kind-row T50 (Number n) s e = payment-row n s e
-kind-row T50 (NonDigit i) s e = omega (arith, ap section e)
-kind-row T50 TooLong s e = omega (arith, ap section e)
-kind-row EF m s e = omega (arith, ap section e)
-kind-row NoType m s e = omega (arith, ap section e)
-
--- a line is of a section of the table
-pub line-row : (r : List ℕ) (s : ℕ) → kindIn r ≡ Line s → s < 5
-unfolding kindIn
-line-row r s e = kind-row (typeIn r) (subtypeIn r) s e

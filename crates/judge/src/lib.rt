@@ -133,10 +133,8 @@ pub fn kind_in(rec: &[u8]) -> Kind
     requires { ⌜ length (now rec) ≡ 120 ⌝ }
     ensures { λ r. ⌜ r ≡ kindIn (now (rec .entry)) ⌝ }
 {
-    layout::kind_of(
-        type_in(rec),
-        text::number(&rec[Part::SUBTYPE..Part::SUBTYPE_END]),
-    )
+    let form = layout::form_in(rec);
+    form.kind
 }
 
 // What the digits of a field say.

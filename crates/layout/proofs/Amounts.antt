@@ -1,67 +1,23 @@
 -- The numeric fields of a record of a delega: its number comes first, and behind it amounts, each at a fixed distance from the one before.
-use Prim.Native.Nat.{ℕ, zero, suc, _+_, _-_, _≤_, _<_}
+use Prim.Native.Nat.{ℕ, zero, suc, _+_, _-_, _<_}
 use mathlib.Core.Path.{_≡_, refl, ap}
 use mathlib.Core.Bool.{Bool, true, false, cond, false≢true}
 use mathlib.Core.List.{List, [], _∷_}
 use native.Mathlib.Omega.{arith}
 use native.Mathlib.Nat.{add-zero}
-use lib.Dec.{T, eqb, eqb→eq, lit≤, lit<}
+use lib.Dec.{T, eqb, eqb→eq}
 use lib.ListN.{length, getD, drop, length-drop}
 use lib.Seq.{getD-drop}
-use Rattle.text.specs.declared.Digits.{Digits}
-use Rattle.text.specs.declared.Digits.the-variants.{Number, NonDigit, TooLong}
 use Rattle.layout.specs.declared.Field.{Field}
 use Rattle.layout.specs.declared.Section.{Section}
-use Rattle.layout.specs.declared.RecordType.{RecordType}
-use Rattle.layout.specs.declared.RecordType.the-variants.{F4, T10, T20, T40, T50, EF, NoType}
 use Rattle.layout.specs.declared.Kind.{Kind}
 use Rattle.layout.specs.declared.Kind.the-variants.{Head, Taxpayer, Domicile, Line, Balance, Payment, Receipt, Addressee, Tail, Unknown}
 use Rattle.layout.specs.Sections.{sections, noSection, sectionAt}
-use Rattle.layout.specs.Kinds.{sectionKindFrom, paymentKind, kindOf, typeIn, subtypeIn, kindIn}
+use Rattle.layout.specs.Kinds.{kindIn}
 use Rattle.layout.specs.Fields.{fieldsOf, nowhere, amountAt, delegaNumber}
 use Rattle.layout.specs.Forms.{numbered}
+use Rattle.layout.proofs.InTable.{sectionOf, section-within}
 use Rattle.layout.proofs.Table.{both, both-left, both-right, at-each}
-
--- the section of a line or of a balance
-abbrev pub sectionOf : Kind → ℕ
-sectionOf Head = 0
-sectionOf Taxpayer = 0
-sectionOf Domicile = 0
-sectionOf (Line s) = s
-sectionOf (Balance s) = s
-sectionOf Payment = 0
-sectionOf Receipt = 0
-sectionOf Addressee = 0
-sectionOf Tail = 0
-sectionOf Unknown = 0
-
-choice : (t : Bool) (j k : Kind) → sectionOf j < 5 → sectionOf k < 5 → sectionOf (cond t j k) < 5
-choice true j k h i = h
-choice false j k h i = i
-
-look-within : (i : ℕ) (xs : List Section) (n : ℕ) → i + length xs ≤ 5 → sectionOf (sectionKindFrom i xs n) < 5
-unfolding sectionKindFrom
-look-within i [] n h = lit< tt
-look-within i (x ∷ xs) n h = choice (eqb n (x .«line_subtype»)) _ _ (omega arith) (choice (eqb n (x .«balance_subtype»)) _ _ (omega arith) (look-within (i + 1) xs n (omega arith)))
-
-kind-within : (t : RecordType) (d : Digits) → sectionOf (kindOf t d) < 5
-unfolding paymentKind
-kind-within F4 d = lit< tt
-kind-within T10 d = lit< tt
-kind-within T20 d = lit< tt
-kind-within T40 (Number n) = look-within 0 sections n (lit≤ tt)
-kind-within T40 (NonDigit i) = lit< tt
-kind-within T40 TooLong = lit< tt
-kind-within T50 (Number n) = choice (eqb n 1) _ _ (lit< tt) (choice (eqb n 2) _ _ (lit< tt) (choice (eqb n 3) _ _ (lit< tt) (lit< tt)))
-kind-within T50 (NonDigit i) = lit< tt
-kind-within T50 TooLong = lit< tt
-kind-within EF d = lit< tt
-kind-within NoType d = lit< tt
-
--- the section of a record is in the table
-pub section-within : (r : List ℕ) → sectionOf (kindIn r) < 5
-unfolding kindIn
-section-within r = kind-within (typeIn r) (subtypeIn r)
 
 -- the numeric fields of a kind but the first
 abbrev behind : Kind → List Field

@@ -2,4 +2,5 @@ pub mod Table
 pub mod Within
 pub mod OtherKinds
 pub mod Spelled
+pub mod InTable
 pub mod Amounts

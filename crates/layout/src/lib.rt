@@ -15,9 +15,7 @@ pub use columns::fields_of;
 pub use forms::form_in;
 pub use forms::is_numbered;
 pub use forms::type_by;
-pub use kinds::kind_of;
 pub use kinds::section_kind;
-pub use kinds::type_of;
 
 // What the product writes and reads of an amount, in cents.
 pub struct Amount {

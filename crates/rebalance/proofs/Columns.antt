@@ -1,11 +1,10 @@
 -- The kinds of records that store something: where their stored fields stand, what is written there, and which numeric fields they are.
-use Prim.Native.Nat.{ℕ, _+_, _<_, _≤_}
+use Prim.Native.Nat.{ℕ, _+_, _<_}
 use mathlib.Core.Path.{_≡_, refl, sym, ap, _∙_}
 use mathlib.Core.Bool.{Bool, true, false, cond}
 use mathlib.Core.List.{List, [], _∷_}
 use native.Mathlib.Omega.{arith}
-use lib.Dec.{T, eqb, ltb, lit≤, lit<}
-use lib.ListN.{length}
+use lib.Dec.{T, ltb, lit≤}
 use Rattle.text.specs.declared.Characters.the-variants.{Allowed}
 use Rattle.text.specs.declared.Digits.{Digits}
 use Rattle.text.specs.declared.Digits.the-variants.{Number, NonDigit, TooLong}
@@ -14,13 +13,12 @@ use Rattle.text.specs.Numbers.{numberOf}
 use Rattle.text.proofs.Allowed.{allowed-byte, allowed-digits}
 use Rattle.layout.specs.declared.Field.{Field}
 use Rattle.layout.specs.declared.Section.{Section}
-use Rattle.layout.specs.declared.RecordType.{RecordType}
-use Rattle.layout.specs.declared.RecordType.the-variants.{F4, T10, T20, T40, T50, EF, NoType}
 use Rattle.layout.specs.declared.Kind.{Kind}
 use Rattle.layout.specs.declared.Kind.the-variants.{Head, Taxpayer, Domicile, Line, Balance, Payment, Receipt, Addressee, Tail, Unknown}
 use Rattle.layout.specs.Sections.{sections, noSection, sectionAt}
-use Rattle.layout.specs.Kinds.{sectionKindFrom, paymentKind, kindOf, typeIn, subtypeIn, kindIn}
+use Rattle.layout.specs.Kinds.{kindIn}
 use Rattle.layout.specs.Fields.{amountAt, delegaNumber, finalBalance, tailDeleghe, tailSum, tailRecords, fieldsOf, bytesOf}
+use Rattle.layout.proofs.InTable.{sectionOf, section-within}
 use Rattle.layout.proofs.Table.{at-each}
 use Rattle.amounts.specs.declared.Sums.{Sums}
 use Rattle.rules.specs.declared.State.{State}
@@ -33,58 +31,6 @@ use Rattle.rules.specs.Checks.{orBad, badFields}
 use Rattle.amounts.proofs.Outcomes.{first-none}
 use Rattle.rebalance.specs.Rebalance.{keptFields, clear}
 use Rattle.rebalance.proofs.Written.{both-true, laid, Printable, valueFields, digits-pass}
-
--- The section of a line or of a balance.
-abbrev sectionOf : Kind → ℕ
-sectionOf Head = 0
-sectionOf Taxpayer = 0
-sectionOf Domicile = 0
-sectionOf (Line s) = s
-sectionOf (Balance s) = s
-sectionOf Payment = 0
-sectionOf Receipt = 0
-sectionOf Addressee = 0
-sectionOf Tail = 0
-sectionOf Unknown = 0
-
--- A choice of two kinds whose sections are in the table is such a kind.
-choice : (t : Bool) (j k : Kind) → sectionOf j < 5 → sectionOf k < 5 → sectionOf (cond t j k) < 5
-choice true j k h i = h
-choice false j k h i = i
-
--- A subtype names a section of the table.
-look-within : (i : ℕ) (xs : List Section) (n : ℕ) → i + length xs ≤ 5 → sectionOf (sectionKindFrom i xs n) < 5
-unfolding sectionKindFrom
-look-within i [] n h = lit< tt
-look-within i (x ∷ xs) n h = choice (eqb n (x .«line_subtype»)) _ _ (omega arith) (choice (eqb n (x .«balance_subtype»)) _ _ (omega arith) (look-within (i + 1) xs n (omega arith)))
-
--- A type and a subtype name a section of the table, if any.
-kind-within : (t : RecordType) (d : Digits) → sectionOf (kindOf t d) < 5
-unfolding paymentKind
-kind-within F4 d = lit< tt
-kind-within T10 d = lit< tt
-kind-within T20 d = lit< tt
-kind-within T40 (Number n) = look-within 0 sections n (lit≤ tt)
-kind-within T40 (NonDigit i) = lit< tt
-kind-within T40 TooLong = lit< tt
-kind-within T50 (Number n) = choice (eqb n 1) _ _ (lit< tt) (choice (eqb n 2) _ _ (lit< tt) (choice (eqb n 3) _ _ (lit< tt) (lit< tt)))
-kind-within T50 (NonDigit i) = lit< tt
-kind-within T50 TooLong = lit< tt
-kind-within EF d = lit< tt
-kind-within NoType d = lit< tt
-
--- The section of a record is in the table.
-section-within : (r : List ℕ) → sectionOf (kindIn r) < 5
-unfolding kindIn
-section-within r = kind-within (typeIn r) (subtypeIn r)
-
--- A line is of a section of the table.
-pub line-within : (r : List ℕ) (s : ℕ) → kindIn r ≡ Line s → s < 5
-line-within r s e = rw e at (section-within r)
-
--- A balance is of a section of the table.
-pub balance-within : (r : List ℕ) (s : ℕ) → kindIn r ≡ Balance s → s < 5
-balance-within r s e = rw e at (section-within r)
 
 -- A record stores nothing, or it is the balance of a section, a 50-01 or the tail.
 pub data Storing (st : State) : Kind → Type 0 where
