@@ -1,7 +1,7 @@
 pub mod Records
 mod FieldByField
 pub mod Turn
-mod QuickTurn
+mod NumberedTurn
 mod WaysOut
 pub mod Accepted
 pub mod Counts

@@ -1,7 +1,7 @@
 -- The ways out of a turn of the judge: behind the clean records, at a record that may not stand there, at a field that is no number, at another number than the delega's.
-use Prim.Native.Nat.{ℕ, _+_, _*_, _/_, _<_, _≤_}
-use mathlib.Core.Path.{_≡_, refl, sym, ap, _∙_}
-use mathlib.Core.Bool.{Bool, true, false}
+use Prim.Native.Nat.{ℕ, _+_, _*_, _/_, _<_}
+use mathlib.Core.Path.{_≡_, refl, sym, ap}
+use mathlib.Core.Bool.{false}
 use mathlib.Core.List.{List, [], _∷_}
 use native.Mathlib.Omega.{arith}
 use native.Mathlib.Decide.{ℕ-discrete}
@@ -9,11 +9,10 @@ use borrow.Author.Tests.{eq-eqb, ne-eqb}
 use lib.ListN.{length, take, drop}
 use Rattle.text.specs.declared.Digits.{Digits}
 use Rattle.text.specs.declared.Digits.the-variants.{Number, NonDigit, TooLong}
-use Rattle.text.specs.Characters.{firstBad, allAllowed}
+use Rattle.text.specs.Characters.{firstBad}
 use Rattle.text.specs.Numbers.{numberOf}
 use Rattle.text.proofs.Allowed.{Bad, not-allowed}
 use Rattle.layout.specs.declared.Field.{Field}
-use Rattle.layout.specs.declared.Kind.{Kind}
 use Rattle.layout.specs.Kinds.{typeIn, kindIn}
 use Rattle.layout.specs.Fields.{delegaNumber, fieldsOf, bytesOf, valueOf}
 use Rattle.amounts.specs.declared.Outcome.{Outcome}
@@ -24,8 +23,7 @@ use Rattle.rules.specs.declared.State.{State}
 use Rattle.rules.specs.Checks.{charFault, orBad, badFields, numberFault}
 use Rattle.rules.specs.Values.{valuesIn}
 use Rattle.judge.specs.declared.Judgement.{Judgement}
-use Rattle.judge.specs.declared.Values.{Values}
-use Rattle.judge.specs.Flow.{refusedWith, closing, after, headNameOf}
+use Rattle.judge.specs.Flow.{refusedWith, after, headNameOf}
 use Rattle.judge.specs.Reading.{Clean, ending, valuesRead}
 use Rattle.judge.proofs.Turn.{Going, going-end, going-refuses, fault-chars, fault-standing, fault-fields, fault-number}
 

@@ -1,7 +1,7 @@
 -- Serves inner functions. How the judge looks at characters and fields: records up to the first that is not clean, and the values of a record's fields.
 use Prim.Native.Nat.{ℕ, _+_, _-_, _*_, _/_, _<_, _≤_}
 use mathlib.Core.Path.{_≡_}
-use mathlib.Core.Bool.{Bool, true, false, cond}
+use mathlib.Core.Bool.{true, false, cond}
 use mathlib.Core.List.{List}
 use lib.Dec.{eqb}
 use lib.ListN.{length, take, drop, replicate}
@@ -29,10 +29,11 @@ ending s st =
     cond (eqb (st .seen) (length s / 120)) (closing st)
     (after (charFault (firstBad (take 120 (drop (st .seen * 120) s)))) (st .seen) (refusedWith 5 (st .seen + 1) 0))
 
--- the values of the fields of a list, or the position of the first that holds something else than digits
+-- values where check 7 passes, else the position that it tells
 abbrev valuesBy : Outcome → List ℕ → Values
 valuesBy Pass vs = record { bad = 0; values = vs }
 valuesBy (Fault e p) vs = record { bad = p; values = replicate 4 0 }
 
+-- the values of the fields of a list, or the position of the first that holds something else than digits
 unfoldable pub valuesRead : List Field → List ℕ → Values
 valuesRead fl r = valuesBy (badFields fl r) (valuesIn fl r)

@@ -3,9 +3,11 @@ mod lines;
 
 ghost use mathlib.Core.Path.{_≡_};
 ghost use Prim.Native.Nat.{_+_, _/_, _<_, _≤_};
+ghost use lib.Dec.{eqb};
 ghost use lib.ListN.{length, take, drop};
 ghost use Rattle.text.specs.Characters.{firstBad};
 ghost use Rattle.text.specs.Numbers.{numberOf};
+ghost use Rattle.text.specs.Words.{word};
 ghost use Rattle.layout.specs.Kinds.{typeIn, kindIn};
 ghost use Rattle.layout.specs.Fields.{fieldsOf, bytesOf, Within};
 ghost use Rattle.order.specs.Order.{standing};
@@ -15,6 +17,7 @@ ghost use Rattle.judge.specs.Flow.{refusedWith, closing, after, headName
 ghost use Rattle.judge.specs.Reading.{Clean, ending, valuesRead};
 use amounts::Outcome;
 use amounts::Sums;
+use layout::Amount;
 use layout::Field;
 use layout::Flow;
 use layout::Kind;
@@ -172,7 +175,7 @@ fn clean_records(flow: &[u8], seen: usize) -> usize
     count
 }
 
-// Behind the clean records: the closing where no record is left, else check 3 of the next one.
+// Behind the clean records: the closing where no record is left, else check 3 of the next one, which fails there.
 fn ended(flow: &[u8], st: State, count: usize) -> Judgement
     requires { ⌜ (count ≡ length (now flow) / 120) × (st .seen ≤ count) × (st .seen < 1000) ⌝ }
     ensures { λ r. ⌜ r ≡ ending (now (flow .entry)) st ⌝ }
@@ -187,7 +190,7 @@ fn ended(flow: &[u8], st: State, count: usize) -> Judgement
     }
 }
 
-// The refusal of a record that may not stand where it does.
+// The refusal of a record that does not fit its stage: check 4 or 6, one of which fails there.
 fn misplaced(stage: Stage, rec: &[u8], kind: Kind, k: usize) -> Judgement
     requires { ⌜ (length (now rec) ≡ 120) × (k < 1000) ⌝ }
     ensures { λ r. ⌜ r ≡ after (standing stage (typeIn (now (rec .entry))) kind) k (refusedWith 4 (k + 1) 2) ⌝ }
@@ -216,12 +219,13 @@ fn misread(rec: &[u8], kind: Kind, k: usize) -> Judgement
     refused(8, k + 1, 4)
 }
 
-// What the numeric fields of a record say, or the position of the first that holds something else than digits.
+// What the numeric fields of a record say, or the position of the first that holds something else than digits; that position is 0 where none does.
 struct Values {
     bad: usize,
     values: [u64; 4],
 }
 
+// The values of a record's numeric fields, read one by one: those of head and tail, which carry no delega's number.
 fn values_in(rec: &[u8], kind: Kind) -> Values
     requires { ⌜ length (now rec) ≡ 120 ⌝ }
     ensures { λ r. ⌜ r ≡ valuesRead (fieldsOf kind) (now (rec .entry)) ⌝ }
@@ -244,7 +248,16 @@ fn values_in(rec: &[u8], kind: Kind) -> Values
     Values { bad: 0, values }
 }
 
-// The judgement of the records that are left, after those that led to a state.
+// Whether a record of a delega carries its number: the zero with which its type ends and the seven digits behind it are the word of that number.
+fn carries(rec: &[u8], own: u64) -> bool
+    requires { ⌜ length (now rec) ≡ 120 ⌝ }
+    ensures { λ r. ⌜ r ≡ eqb (word (take 8 (drop 2 (now (rec .entry))))) own ⌝ }
+{
+    text::word_at(rec, Part::TYPE + 1) == own
+}
+
+// The judgement of the records that are left, after those that led to a state. The amounts of a record are read before its number is compared, which leaves
+// the compiler less to keep at once; `misread` tells which of them is refused first.
 fn judge_from(flow: &[u8], start: State) -> Judgement
     requires { ⌜ Ready (now flow) start ⌝ }
     ensures { λ r. ⌜ r ≡ judgedFrom (headNameOf (now (flow .entry))) start (restOf (now (flow .entry)) (start .seen)) ⌝ }
@@ -253,7 +266,7 @@ fn judge_from(flow: &[u8], start: State) -> Judgement
     let name = &flow[Part::SUPPORT_NAME..Part::SUPPORT_NAME_END];
     let clean = clean_records(flow, start.seen);
     let mut st = start;
-    let mut number = text::number_word(st.deleghe);
+    let mut own = text::number_word(st.deleghe);
     'records: loop {
         let k = st.seen;
         if k == clean {
@@ -270,7 +283,7 @@ fn judge_from(flow: &[u8], start: State) -> Judgement
         if layout::is_numbered(kind) {
             let d = rules::next_deleghe(st.deleghe, kind);
             if let Kind::Taxpayer = kind {
-                number = text::number_word(d);
+                own = text::number_word(d);
             }
             values[0] = d;
             let last = form.amounts;
@@ -281,10 +294,11 @@ fn judge_from(flow: &[u8], start: State) -> Judgement
                     break 'records misread(rec, kind, k);
                 };
                 values[f + 1] = v;
-                at += 15 + f;
+                // The second amount follows the first at once, and a sign stands before the third.
+                at += Amount::WIDTH + f;
                 f += 1;
             }
-            if text::word_at(rec, 2) != number {
+            if !carries(rec, own) {
                 break 'records misread(rec, kind, k);
             }
         } else {

@@ -60,7 +60,3 @@ section-within r = kind-within (typeIn r) (subtypeIn r)
 -- a line is of a section of the table
 pub line-within : (r : List ℕ) (s : ℕ) → kindIn r ≡ Line s → s < 5
 line-within r s e = rw e at (section-within r)
-
--- a balance is of a section of the table
-pub balance-within : (r : List ℕ) (s : ℕ) → kindIn r ≡ Balance s → s < 5
-balance-within r s e = rw e at (section-within r)

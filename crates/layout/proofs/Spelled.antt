@@ -7,7 +7,7 @@ use native.Mathlib.Omega.{arith}
 use lib.Dec.{eqb, ltb}
 use lib.ListN.{length, getD, take, drop}
 use lib.Seq.{drop-cons}
-use borrow.Author.Tests.{eqb-true, ne-eqb, ltb-true, ltb-false}
+use borrow.Author.Tests.{eqb-true, ne-eqb, ltb-false}
 use Rattle.text.specs.declared.Digits.the-variants.{Number, NonDigit}
 use Rattle.text.specs.Numbers.{numberFrom, numberOf}
 use Rattle.layout.specs.declared.Kind.{Kind}

@@ -10,6 +10,7 @@ ghost use mathlib.Core.List.{[], _∷_};
 use crate::Form;
 use crate::Kind;
 use crate::Part;
+use crate::Position;
 use crate::RecordType;
 
 fn formed(kind: Kind, amounts: usize, at: usize) -> Form
@@ -18,7 +19,7 @@ fn formed(kind: Kind, amounts: usize, at: usize) -> Form
     Form { kind, amounts, at }
 }
 
-// The type that two characters spell, as one number, the first one lowest.
+// The type that two characters spell, as one number with the first one lowest: F4 is 0x3446, 10 0x3031, 20 0x3032, 40 0x3034, 50 0x3035, EF 0x4645.
 pub fn type_by(word: u64) -> RecordType
     ensures { λ r. ⌜ r ≡ typeOf (word % 256) (word / 256) ⌝ }
 {
@@ -66,7 +67,7 @@ fn payment_form(a: u8, b: u8) -> Form
 {
     if a == b'0' {
         return match b {
-            b'1' => formed(Kind::Payment, 1, 36 - 1),
+            b'1' => formed(Kind::Payment, 1, Position::FINAL_BALANCE - 1),
             b'2' => formed(Kind::Receipt, 0, 0),
             b'3' => formed(Kind::Addressee, 0, 0),
             _ => formed(Kind::Unknown, 0, 0),
@@ -75,7 +76,7 @@ fn payment_form(a: u8, b: u8) -> Form
     formed(Kind::Unknown, 0, 0)
 }
 
-// The form of a record.
+// The form of a record, by the same numbers. Most records are of type 40.
 pub fn form_in(rec: &[u8]) -> Form
     requires { ⌜ length (now rec) ≡ 120 ⌝ }
     ensures { λ r. ⌜ r ≡ formOf (kindIn (now (rec .entry))) ⌝ }
@@ -91,7 +92,7 @@ pub fn form_in(rec: &[u8]) -> Form
         0x3031 => formed(Kind::Taxpayer, 0, 0),
         0x3032 => formed(Kind::Domicile, 0, 0),
         0x3035 => payment_form(a, b),
-        0x4645 => formed(Kind::Tail, 2, 53 - 1),
+        0x4645 => formed(Kind::Tail, 2, Position::TAIL_SUM - 1),
         _ => formed(Kind::Unknown, 0, 0),
     }
 }

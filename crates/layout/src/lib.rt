@@ -66,7 +66,7 @@ impl Position {
     pub const TAIL_RECORDS: usize = 83;
 }
 
-// The indexes of the fields that are taken as parts of a record: where each begins, and the index behind its end.
+// The indexes of what is taken of a record without being read as a number: where each begins, and of the support name the index behind its end.
 pub struct Part {
     pub from: usize,
 }
@@ -75,8 +75,6 @@ impl Part {
     pub const TYPE: usize = Position::TYPE - 1;
 
     pub const SUBTYPE: usize = Position::SUBTYPE - 1;
-
-    pub const SUBTYPE_END: usize = 12;
 
     pub const SUPPORT_NAME: usize = Position::SUPPORT_NAME - 1;
 
@@ -240,8 +238,8 @@ pub struct Fields {
     pub fields: [Field; 4],
 }
 
-// How a record is read: its kind, how many amounts it has behind its first numeric field, and where the first of them starts. In a record of a delega
-// the second follows it at once, and the third after a sign.
+// How a record is read: its kind, how many numeric fields it has behind its first one, and where the first of these starts. In a record of a delega
+// they are amounts: the second follows the first at once, and the third after a sign.
 pub struct Form {
     pub kind: Kind,
     pub amounts: usize,

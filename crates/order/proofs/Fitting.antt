@@ -5,10 +5,10 @@ use mathlib.Core.Bool.{Bool, true, false, cond, not, false≢true}
 use Rattle.amounts.specs.declared.Outcome.the-variants.{Pass, Fault}
 use Rattle.layout.specs.declared.RecordType.{RecordType}
 use Rattle.layout.specs.declared.Kind.{Kind}
-use Rattle.layout.specs.declared.Kind.the-variants.{Unknown}
 use Rattle.order.specs.declared.Stage.{Stage}
 use Rattle.order.specs.Order.{stands, full, typeStands, fitting, standing}
 
+-- the contrary of a test
 pub turned : (a : Bool) → not a ≡ cond a false true
 turned true = refl
 turned false = refl
@@ -33,8 +33,3 @@ unfit-refused p t k = go (stands p k) (full p k) (typeStands p t)
     go true false d f = absurd (false≢true (sym f))
     go false b true f = (4, 11, refl)
     go false b false f = (4, 2, refl)
-
--- a record of no kind fits nowhere
-pub unknown-unfit : (p : Stage) → fitting p Unknown ≡ false
-unfolding fitting stands
-unknown-unfit p = refl

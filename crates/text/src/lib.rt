@@ -25,7 +25,7 @@ pub enum Digits {
     TooLong,
 }
 
-// What fifteen characters say: an amount, or nothing where one of them is no digit.
+// What the characters of an amount, or eight of its fifteen, say: a number, or nothing where one of them is no digit.
 pub enum Fifteen {
     Amount(u64),
     NonDigit,

@@ -1,5 +1,5 @@
-use mathlib.Core.Path.{_≡_, refl, sym, ap, _∙_}
-use mathlib.Core.Bool.{Bool, true, false}
+use mathlib.Core.Path.{_≡_, sym, ap, _∙_}
+use mathlib.Core.Bool.{true}
 use Prim.Native.Nat.{ℕ, _+_, _-_, _*_, _/_, _<_, _≤_}
 use native.Mathlib.Omega.{arith}
 use mathlib.Core.List.{List}
@@ -8,7 +8,6 @@ use lib.ListN.{length, take, drop}
 use lib.Seq.{drop-drop}
 use Rattle.text.specs.Characters.{firstBadFrom, allAllowed}
 use Rattle.text.proofs.Allowed.{allowed-more}
-use Rattle.judge.specs.Reading.{Clean}
 use borrow.Author.Needs.{needs}
 use Rattle.judge.proofs.clean_records.Statement.{statement}
 use Rattle.judge.proofs.clean_records.Tie as tie

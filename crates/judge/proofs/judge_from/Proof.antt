@@ -1,5 +1,5 @@
-use Rattle.judge.proofs.Turn.{Going, going-refuses, going-on, fault-values, bad-on, bad-here, bad-end, read-on, read-end, pair-small}
-use Rattle.judge.proofs.QuickTurn.{behind, behind-length, behind-three, behind-first, behind-amount, behind-within, behind-next, number-then, values-then, amount-none, amount-bad, number-same, number-other, unnumbered-next}
+use Rattle.judge.proofs.Turn.{Going, going-refuses, going-on, fault-values, bad-on, bad-end, read-on, pair-small}
+use Rattle.judge.proofs.NumberedTurn.{behind, behind-length, behind-three, behind-first, behind-amount, behind-within, behind-next, number-then, values-then, amount-none, amount-bad, number-same, number-other, unnumbered-next}
 use Rattle.judge.proofs.WaysOut.{values-good, values-bad, out-ended, out-misplaced, out-bad, out-misread}
 use Rattle.judge.specs.Flow.{refusedWith, after, judgedFrom, restOf, headNameOf}
 use Rattle.judge.specs.Reading.{Clean, valuesRead}
@@ -9,20 +9,20 @@ use Rattle.rules.specs.Values.{valuesIn, valuesOn}
 use Rattle.rules.specs.Step.{nextDeleghe, nextOf}
 use Rattle.rules.proofs.Reading.{pairOf}
 use Rattle.rules.specs.Checks.{charFault, badFields, numberFault, fault}
-use Rattle.order.specs.Order.{fitting, standing}
+use Rattle.order.specs.Order.{standing}
 use Rattle.order.proofs.Fitting.{fits-passes}
 use Rattle.rules.specs.declared.State.{State}
 use Rattle.amounts.specs.declared.Outcome.the-variants.{Pass, Fault}
-use Rattle.layout.specs.Fields.{nowhere, amountAt, delegaNumber, fieldsOf, bytesOf, valueOf}
+use Rattle.layout.specs.Fields.{nowhere, delegaNumber, fieldsOf, bytesOf, valueOf}
 use Rattle.layout.specs.Forms.{numbered, formOf}
-use Rattle.layout.specs.Kinds.{typeIn, kindIn, ofTaxpayer}
+use Rattle.layout.specs.Kinds.{typeIn, kindIn}
 use Rattle.layout.specs.declared.Field.{Field}
 use Rattle.layout.specs.declared.Form.{Form}
 use Rattle.layout.specs.declared.Kind.{Kind}
 use Rattle.layout.proofs.OtherKinds.{no-taxpayer}
 use Rattle.text.specs.Numbers.{numberOf, amountOf, digitsOf}
 use Rattle.text.specs.Words.{word, fifteenOf}
-use Rattle.text.specs.Characters.{firstBad, allAllowed}
+use Rattle.text.specs.Characters.{firstBad}
 use Rattle.text.specs.declared.Characters.the-variants.{Allowed}
 use Rattle.text.specs.declared.Digits.the-variants.{Number}
 use Rattle.text.proofs.Allowed.{allowed-part}
@@ -30,10 +30,12 @@ use Rattle.text.proofs.FifteenDigits.{amount-number}
 use lib.ListN.{length, take, drop, getD, set, replicate, length-take, length-drop}
 use lib.Seq.{drop-drop, take-all}
 use borrow.Author.Needs.{needs}
-use mathlib.Core.Bool.{Bool, true, false, not}
+use mathlib.Core.Bool.{Bool, true, false, not, false≢true}
+use borrow.Author.Tests.{eq-eqb, eqb-true}
+use lib.Dec.{eqb}
 use mathlib.Core.List.{List, _∷_, _++_, map}
 use mathlib.Core.Logic.{⊎-elim}
-use Prim.Native.Nat.{ℕ, suc, _+_, _-_, _*_, _/_, _<_, _≤_}
+use Prim.Native.Nat.{ℕ, _+_, _-_, _*_, _/_, _<_, _≤_}
 use native.Mathlib.Numerals.{add-one}
 use native.Mathlib.Omega.{arith}
 use mathlib.Core.Path.{_≡_, refl, sym, ap, _∙_}
@@ -159,7 +161,7 @@ d-small c =
 abbrev AtWord : Type 0
 AtWord = tie.At-match-came Inv-loop μ-loop Inv-records μ-records
 
-word-is : (c : AtWord) → c .match .number ≡ word (digitsOf 8 (d-of (c .before)))
+word-is : (c : AtWord) → c .match .own ≡ word (digitsOf 8 (d-of (c .before)))
 word-is c =
     ⊎-elim
     (λ w. w .3 ∙ w .2 .ensures)
@@ -224,13 +226,13 @@ numbers-behind c = let e = all-read c in c .before .loop .inv .1 ∙ bad-end (dr
 
 -- the number is compared
 abbrev AtCompared : Type 0
-AtCompared = tie.After-word-at Inv-loop μ-loop Inv-records μ-records
+AtCompared = tie.After-carries Inv-loop μ-loop Inv-records μ-records
 
 abbrev past-of : AtCompared → AtNext
 past-of c = next-of (c .before .before)
 
-compared : (c : AtCompared) → word (take 8 (drop 2 (rl (c .before .before)))) ≡ c .word-at .result
-compared c = sym (c .word-at .ensures)
+compared : (c : AtCompared) → c .carries .result ≡ eqb (word (take 8 (drop 2 (rl (c .before .before))))) (c .before .before .before .match .own)
+compared c = c .carries .ensures
 
 -- the number is the one expected
 abbrev Quick : Type 0
@@ -240,7 +242,7 @@ number-right : (c : Quick) → numberOf (bytesOf (rl (c .before .before .before)
 number-right c =
     let q = past-of (c .before) in
     let m = rec-of (num-of q) in
-    number-same (r m) (is-number q) (whole m) (fine m) (d-of q) (d-small q) (compared (c .before) ∙ (c .if4 .left ∙ word-is (c .before .before .before .before)))
+    number-same (r m) (is-number q) (whole m) (fine m) (d-of q) (d-small q) (eqb-true _ _ (sym (compared (c .before)) ∙ unturned (c .before .carries .result) (c .if4 .left)) ∙ word-is (c .before .before .before .before))
 
 quick-numbers : (c : Quick) → badFields (fieldsOf (kindIn (rl (c .before .before .before)))) (rl (c .before .before .before)) ≡ Pass
 quick-numbers c = number-then (rl (c .before .before .before)) (is-number (past-of (c .before))) ∙ rw (number-right c) (numbers-behind (c .before .before))
@@ -278,13 +280,13 @@ rm c = r (rec-of (c .before))
 
 abbrev Told : Met → Type 0
 Told c =
-    (badFields (fieldsOf (kindIn (rm c))) (rm c) ≡ Pass) × (c .if3 .values ≡ valuesIn (fieldsOf (kindIn (rm c))) (rm c)) × (c .if3 .number ≡ word (digitsOf 8 (nextDeleghe (st (rec-of (c .before)) .deleghe) (kindIn (rm c)))))
+    (badFields (fieldsOf (kindIn (rm c))) (rm c) ≡ Pass) × (c .if3 .values ≡ valuesIn (fieldsOf (kindIn (rm c))) (rm c)) × (c .if3 .own ≡ word (digitsOf 8 (nextDeleghe (st (rec-of (c .before)) .deleghe) (kindIn (rm c)))))
 
 met : (c : Met) → Told c
 met c =
     ⊎-elim
     (λ w.
-    let q : Quick = record { before = record { before = record { before = record { before = record { before = record { before = record { before = c .before; if3 = w .0 }; next-deleghe = w .1 }; match = w .2 }; loop = w .3 }; loop-test = w .4 }; word-at = w .5 }; if4 = w .6 } in
+    let q : Quick = record { before = record { before = record { before = record { before = record { before = record { before = record { before = c .before; if3 = w .0 }; next-deleghe = w .1 }; match = w .2 }; loop = w .3 }; loop-test = w .4 }; carries = w .5 }; if4 = w .6 } in
     let n : AtNext = record { before = record { before = c .before; if3 = w .0 }; next-deleghe = w .1 } in
     (quick-numbers q, w .8 ∙ quick-values q, w .7 ∙ (word-is (q .before .before .before .before) ∙ ap (λ (i : ℕ). word (digitsOf 8 i)) (d-is n))))
     (λ w.
@@ -431,8 +433,8 @@ loop-again c =
       λ g. let e = at-is i in sym (behind-next (rl l) n (f-of i) (ahead i) g ∙ ap (λ (m : ℕ). m + (15 + f-of i)) (sym e)),
     )
 
-word-at-requires : tie.Need-word-at-requires Inv-loop μ-loop Inv-records μ-records
-word-at-requires c κs = let w = whole (rec-of (num-of (next-of (c .before)))) in omega arith
+carries-requires : tie.Need-carries-requires Inv-loop μ-loop Inv-records μ-records
+carries-requires c κs = whole (rec-of (num-of (next-of (c .before))))
 
 misread-requires-2 : tie.Need-misread-requires-2 Inv-loop μ-loop Inv-records μ-records
 misread-requires-2 c κs = (whole (rec-of (num-of (next-of (c .before .before .before)))), omega (arith, small (rec-of (num-of (next-of (c .before .before .before))))))
@@ -511,7 +513,7 @@ returns-4 c =
     let n = past-of a in
     let q = rec-of (num-of n) in
     c .misread2 .ensures
-    ∙ misread-out (num-of n) (λ p. number-other (r q) (is-number n) (whole q) (fine q) (d-of n) (d-small n) (st q .deleghe) (d-is n) (λ e. c .before .if4 .taken (sym (compared a) ∙ (e ∙ sym (word-is (a .before .before .before))))) p)
+    ∙ misread-out (num-of n) (λ p. number-other (r q) (is-number n) (whole q) (fine q) (d-of n) (d-small n) (st q .deleghe) (d-is n) (λ e. false≢true (sym (turned (a .carries .result) (c .before .if4 .taken)) ∙ (compared a ∙ eq-eqb _ _ (e ∙ sym (word-is (a .before .before .before)))))) p)
 
 returns-5 : tie.Need-returns-5 Inv-loop μ-loop Inv-records μ-records
 returns-5 c =
@@ -566,7 +568,7 @@ judge-from-spec =
     add-f
     loop-less
     loop-again
-    word-at-requires
+    carries-requires
     misread-requires-2
     values-in-requires
     add-refused

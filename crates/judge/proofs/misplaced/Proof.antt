@@ -1,8 +1,5 @@
-use mathlib.Core.Path.{_≡_, refl, sym, ap, _∙_}
-use Prim.Native.Nat.{ℕ, _+_, _-_, _*_, _/_, _<_, _≤_}
-use native.Mathlib.Omega.{arith}
-use mathlib.Core.List.{List, _++_, map}
-use lib.ListN.{length, take, drop, getD, replicate}
+use mathlib.Core.Path.{_≡_, sym, ap, _∙_}
+use Prim.Native.Nat.{_+_}
 use Rattle.amounts.specs.declared.Outcome.{Outcome}
 use Rattle.judge.specs.Flow.{refusedWith, after}
 use Rattle.order.specs.Order.{standing}

@@ -1,20 +1,17 @@
 use mathlib.Core.Path.{_≡_, refl, sym, ap, _∙_}
-use Prim.Native.Nat.{ℕ, _+_, _-_, _*_, _/_, _<_, _≤_}
+use Prim.Native.Nat.{ℕ, _+_, _-_, _≤_}
 use native.Mathlib.Omega.{arith}
 use mathlib.Core.List.{List, _++_, map}
 use lib.ListN.{length, take, drop, getD, replicate}
 use Rattle.judge.proofs.Turn.{bad-on, bad-here, bad-end, read-on, read-end}
 use Rattle.judge.proofs.FieldByField.{inside, in-four, field-is, field-within}
-use Rattle.judge.specs.Flow.{refusedWith, after}
 use Rattle.rules.specs.Checks.{badFields}
 use Rattle.layout.specs.declared.Field.{Field}
 use Rattle.layout.specs.declared.Fields.{Fields}
 use Rattle.layout.specs.declared.Kind.{Kind}
-use Rattle.layout.specs.Fields.{Within, nowhere, listed, fieldsOf, bytesOf, valueOf}
+use Rattle.layout.specs.Fields.{nowhere, listed, fieldsOf, bytesOf, valueOf}
 use Rattle.text.specs.Numbers.{numberOf, amountOf}
-use Rattle.amounts.specs.declared.Outcome.{Outcome}
 use Rattle.judge.specs.Reading.{valuesRead}
-use Rattle.rules.specs.Values.{valuesIn}
 use borrow.Author.Needs.{needs}
 use Rattle.judge.proofs.values_in.Statement.{statement}
 use Rattle.judge.proofs.values_in.Tie as tie

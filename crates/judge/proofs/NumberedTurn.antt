@@ -1,12 +1,11 @@
 -- A turn of the judge over a record that carries its delega's number: the amounts behind the number, read one by one, and the number, compared as one word.
 use Prim.Native.Nat.{ℕ, zero, suc, _+_, _-_, _<_, _≤_}
 use mathlib.Core.Path.{_≡_, refl, sym, ap, _∙_}
-use mathlib.Core.Bool.{Bool, true, false, false≢true}
-use mathlib.Core.List.{List, [], _∷_, _++_, map}
+use mathlib.Core.Bool.{true, false, false≢true}
+use mathlib.Core.List.{List, _∷_, _++_, map}
 use native.Mathlib.Omega.{arith}
-use native.Mathlib.Numerals.{add-one}
-use borrow.Author.Tests.{ne-eqb, eq-eqb}
-use lib.ListN.{length, take, drop, getD, set, replicate, length-drop}
+use borrow.Author.Tests.{ne-eqb}
+use lib.ListN.{length, take, drop, getD, replicate, length-drop}
 use lib.Seq.{drop-cons, getD-drop}
 use Rattle.text.specs.declared.Digits.{Digits}
 use Rattle.text.specs.declared.Digits.the-variants.{Number, NonDigit, TooLong}
@@ -31,9 +30,8 @@ use Rattle.rules.specs.Checks.{orBad, badFields, carried, numberFault}
 use Rattle.rules.specs.Step.{nextDeleghe}
 use Rattle.rules.specs.Values.{valuesIn}
 use Rattle.rules.proofs.Numbers.{numbered-fault}
-use Rattle.judge.proofs.Turn.{read-on, read-end}
 
--- what comes behind a field that is bad is not looked at, so that it passes where the whole does
+-- where the fields all pass, the first is a number and those behind it pass
 or-passes : (d : Digits) (f : Field) (o : Outcome) → orBad d f o ≡ Pass → (o ≡ Pass) × (d ≡ Number (amountOf d))
 or-passes (Number n) f o e = (e, refl)
 or-passes (NonDigit i) f o e = let z : _≡_ {A = ℕ} 0 1 = cc in absurd (omega arith)
