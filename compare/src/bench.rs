@@ -19,11 +19,13 @@ mod sound;
 use calls::{Call, MOST_NUMBERS};
 use columns::RECORD;
 use flows::{Spot, CASES};
+use std::io::Write;
 use std::process::ExitCode;
 use std::time::Instant;
 
 const USAGE: &str = "usage:
   bench cases                     names the cases: name, records, answer, record and position of a refusal
+  bench flow CASE                 writes the flow of a case to standard output
   bench count WHO CASE TIMES      judges; WHO is library, reference, fast, characters or sum
   bench call WHO CALL TIMES       on the flow of 546 records; WHO is library or reference, CALL delega, find or correct
   bench clock ROUNDS              times them all, in turns: nanoseconds per flow, the median of the rounds
@@ -103,6 +105,7 @@ fn main() -> ExitCode {
 fn run(words: &[&str]) -> Option<()> {
     match *words {
         ["cases"] => cases(),
+        ["flow", case] => std::io::stdout().write_all(&flows::flow(case)?).ok(),
         ["count", who, case, times] => {
             repeat(work(who)?, &mut flows::flow(case)?, times.parse().ok()?);
             Some(())

@@ -4,7 +4,7 @@ use crate::columns::*;
 use crate::rng::Rng;
 use crate::sound::{self, Amounts, DelegaPlan, Filler, Flow, Plan, Pool, SectionPlan};
 
-pub const CASES: [&str; 7] = ["8", "80", "546", "wide", "deleghe", "last-byte", "tail"];
+pub const CASES: [&str; 8] = ["8", "80", "546", "wide", "deleghe", "last-byte", "tail", "early"];
 
 /// The most deleghe that a flow can hold: five records each.
 const MOST_DELEGHE: usize = (MOST_RECORDS - 2) / 5;
@@ -15,7 +15,7 @@ pub fn flow(case: &str) -> Option<Vec<u8>> {
     let plan = match case {
         "8" => printed(),
         "80" => sound::plan_of(&mut rng, 80, Amounts::Middle),
-        "546" | "last-byte" | "tail" => sound::plan_of(&mut rng, MOST_RECORDS, Amounts::Middle),
+        "546" | "last-byte" | "tail" | "early" => sound::plan_of(&mut rng, MOST_RECORDS, Amounts::Middle),
         "wide" => sound::plan_of(&mut rng, MOST_RECORDS, Amounts::Wide),
         "deleghe" => most_deleghe(&mut rng),
         _ => return None,
@@ -28,6 +28,7 @@ pub fn flow(case: &str) -> Option<Vec<u8>> {
             let sum = sound::get(tail, TAIL_SUM, AMOUNT);
             sound::put(tail, TAIL_SUM, AMOUNT, sum + 1);
         }
+        "early" => sound::put(flow.record(1), DELEGA, COUNT, 2),
         _ => (),
     }
     Some(flow.bytes)

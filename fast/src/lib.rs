@@ -3,9 +3,9 @@
 //! those rules'.
 //!
 //! The records are gone through as the grammar says: head, deleghe with
-//! sections of lines, tail. Each is compared with the very one that may come
-//! next, and only one that is not it is looked at closely. Characters are
-//! tested many records at a time, shortly before these are judged.
+//! sections of lines, tail. Each is compared with the few that may stand
+//! there, and only one that is none of them is looked at closely. Characters
+//! are tested many records at a time, shortly before these are judged.
 
 #![forbid(unsafe_code)]
 
