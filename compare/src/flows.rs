@@ -4,7 +4,7 @@ use crate::columns::*;
 use crate::rng::Rng;
 use crate::sound::{self, Amounts, DelegaPlan, Filler, Flow, Plan, Pool, SectionPlan};
 
-pub const CASES: [&str; 8] = ["8", "80", "546", "wide", "deleghe", "last-byte", "tail", "early"];
+pub const CASES: [&str; 9] = ["8", "80", "546", "wide", "large", "deleghe", "last-byte", "tail", "early"];
 
 /// The most deleghe that a flow can hold: five records each.
 const MOST_DELEGHE: usize = (MOST_RECORDS - 2) / 5;
@@ -17,6 +17,7 @@ pub fn flow(case: &str) -> Option<Vec<u8>> {
         "80" => sound::plan_of(&mut rng, 80, Amounts::Middle),
         "546" | "last-byte" | "tail" | "early" => sound::plan_of(&mut rng, MOST_RECORDS, Amounts::Middle),
         "wide" => sound::plan_of(&mut rng, MOST_RECORDS, Amounts::Wide),
+        "large" => large(),
         "deleghe" => most_deleghe(&mut rng),
         _ => return None,
     };
@@ -58,6 +59,16 @@ fn most_deleghe(rng: &mut Rng) -> Plan {
     let left = MOST_RECORDS - 2 - 5 * MOST_DELEGHE;
     deleghe[MOST_DELEGHE - 1] = vec![SectionPlan { section: 0, lines: vec![(2500, 0); 1 + left] }];
     one_by_one(deleghe)
+}
+
+/// Sixty deleghe of five or six Erario lines each, every one with a debit and a
+/// credit above a million euros.
+fn large() -> Plan {
+    let lines = |number: u64| -> Vec<(u64, u64)> {
+        let count = if number < 4 { 6 } else { 5 };
+        (0..count).map(|line| (12_345_678_901 + 7 * number + line, 2_345_678_901 + number + line)).collect()
+    };
+    one_by_one((0..60).map(|number| vec![SectionPlan { section: 0, lines: lines(number) }]).collect())
 }
 
 fn one_by_one(deleghe: Vec<Vec<SectionPlan>>) -> Plan {
