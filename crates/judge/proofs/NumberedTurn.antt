@@ -12,9 +12,9 @@ use Rattle.text.specs.declared.Digits.the-variants.{Number, NonDigit, TooLong}
 use Rattle.text.specs.declared.Characters.the-variants.{Allowed}
 use Rattle.text.specs.Characters.{firstBad}
 use Rattle.text.specs.Numbers.{numberOf, amountOf, digitsOf}
-use Rattle.text.specs.declared.Fifteen.the-variants as Said
-use Rattle.text.specs.Words.{word, fifteenOf}
-use Rattle.text.proofs.NumberWords.{same-number, other-number}
+use Rattle.words.specs.declared.Fifteen.the-variants as Said
+use Rattle.words.specs.Words.{word, fifteenOf}
+use Rattle.words.proofs.NumberWords.{same-number, other-number}
 use Rattle.layout.specs.declared.Field.{Field}
 use Rattle.layout.specs.declared.Kind.{Kind}
 use Rattle.layout.specs.declared.Kind.the-variants.{Head, Taxpayer, Domicile, Line, Balance, Payment, Receipt, Addressee, Tail, Unknown}

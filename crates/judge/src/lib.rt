@@ -7,7 +7,7 @@ ghost use lib.Dec.{eqb};
 ghost use lib.ListN.{length, take, drop};
 ghost use Rattle.text.specs.Characters.{firstBad};
 ghost use Rattle.text.specs.Numbers.{numberOf};
-ghost use Rattle.text.specs.Words.{word};
+ghost use Rattle.words.specs.Words.{word};
 ghost use Rattle.layout.specs.Kinds.{typeIn, kindIn};
 ghost use Rattle.layout.specs.Fields.{fieldsOf, bytesOf, Within};
 ghost use Rattle.order.specs.Order.{standing};
@@ -28,7 +28,7 @@ use order::Stage;
 use rules::State;
 use text::Characters;
 use text::Digits;
-use text::Fifteen;
+use words::Fifteen;
 
 // The answer: accepted, or refused with document 01's number, the record counted from 1, and the position.
 pub enum Verdict {
@@ -128,7 +128,7 @@ fn type_in(rec: &[u8]) -> RecordType
     requires { ⌜ length (now rec) ≡ 120 ⌝ }
     ensures { λ r. ⌜ r ≡ typeIn (now (rec .entry)) ⌝ }
 {
-    layout::type_by(text::pair_at(rec, Part::TYPE))
+    layout::type_by(words::pair_at(rec, Part::TYPE))
 }
 
 // The kind of a record.
@@ -253,7 +253,7 @@ fn carries(rec: &[u8], own: u64) -> bool
     requires { ⌜ length (now rec) ≡ 120 ⌝ }
     ensures { λ r. ⌜ r ≡ eqb (word (take 8 (drop 2 (now (rec .entry))))) own ⌝ }
 {
-    text::word_at(rec, Part::TYPE + 1) == own
+    words::word_at(rec, Part::TYPE + 1) == own
 }
 
 // The judgement of the records that are left, after those that led to a state. The amounts of a record are read before its number is compared, which leaves
@@ -266,7 +266,7 @@ fn judge_from(flow: &[u8], start: State) -> Judgement
     let name = &flow[Part::SUPPORT_NAME..Part::SUPPORT_NAME_END];
     let clean = clean_records(flow, start.seen);
     let mut st = start;
-    let mut own = text::number_word(st.deleghe);
+    let mut own = words::number_word(st.deleghe);
     'records: loop {
         let k = st.seen;
         if k == clean {
@@ -283,14 +283,14 @@ fn judge_from(flow: &[u8], start: State) -> Judgement
         if layout::is_numbered(kind) {
             let d = rules::next_deleghe(st.deleghe, kind);
             if let Kind::Taxpayer = kind {
-                own = text::number_word(d);
+                own = words::number_word(d);
             }
             values[0] = d;
             let last = form.amounts;
             let mut at = form.at;
             let mut f: usize = 0;
             while f < last {
-                let Fifteen::Amount(v) = text::amount_at(rec, at) else {
+                let Fifteen::Amount(v) = words::amount_at(rec, at) else {
                     break 'records misread(rec, kind, k);
                 };
                 values[f + 1] = v;

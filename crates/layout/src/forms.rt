@@ -81,7 +81,7 @@ pub fn form_in(rec: &[u8]) -> Form
     requires { ⌜ length (now rec) ≡ 120 ⌝ }
     ensures { λ r. ⌜ r ≡ formOf (kindIn (now (rec .entry))) ⌝ }
 {
-    let t = text::pair_at(rec, Part::TYPE);
+    let t = words::pair_at(rec, Part::TYPE);
     let a = rec[Part::SUBTYPE];
     let b = rec[Part::SUBTYPE + 1];
     if t == 0x3034 {

@@ -10,9 +10,9 @@ use Rattle.layout.specs.declared.Kind.{Kind}
 use Rattle.layout.specs.Kinds.{kindIn}
 use Rattle.amounts.specs.declared.Sums.{Sums}
 use Rattle.rules.specs.declared.State.{State}
-use Rattle.rules.specs.Bounds.{MoneyBelow, StateBelow}
+use Rattle.rules.specs.Bounds.{Small, MoneyBelow, StateBelow}
 use Rattle.rules.specs.Step.{lineSums, nextOf, next}
-use Rattle.rules.proofs.Growth.{money-room, state-on}
+use Rattle.rules.proofs.Growth.{step-room, state-on}
 use Rattle.judge.specs.Flow.{chunks, recordsOf, restOf}
 use Rattle.judge.proofs.Records.{chunks-on}
 use Rattle.judge.proofs.Turn.{sums-small}
@@ -28,9 +28,10 @@ pub next-below : (st : State) (r : List ℕ) → Turn r st → StateBelow (next 
 unfolding next
 next-below st r t = state-on st (kindIn r) (lineSums (kindIn r) r) (t .below) (sums-small (kindIn r) r (t .sized))
 
--- A state of fewer than a thousand records has room for the amounts of one more.
-pub money-fits : (r : List ℕ) (st : State) → Turn r st → MoneyBelow 1_000_000_000_000_000_000 (st .money)
-money-fits r st t = let f = t .few in money-room (st .seen * 1_000_000_000_000_000) _ (st .money) (omega arith) (t .below .money-below)
+-- The step over a record has room, with the amounts of its line.
+pub turn-room : (r : List ℕ) (st : State) (k : Kind) (x : Sums) → Turn r st → x ≡ lineSums k r →
+    (MoneyBelow 1_000_000_000_000_000_000 (st .money) × Small x) × ((st .stage .lines < 1000) × (st .deleghe < 1000) × (st .seen < 1000))
+turn-room r st k x t e = step-room st x (t .below) (t .few) (rw e (sums-small k r (t .sized)))
 
 -- A record of a flow is one of 120 bytes.
 pub record-sized : (s : List ℕ) (n : ℕ) → n < length s / 120 → length (take 120 (drop (n * 120) s)) ≡ 120

@@ -30,14 +30,6 @@ pub struct Surveyed {
     pub fits: bool,
 }
 
-// The state after a record of kind k.
-fn step(rec: &[u8], st: State, k: Kind) -> State
-    requires { ⌜ Turn (now rec) st × (k ≡ kindIn (now rec)) ⌝ }
-    ensures { λ r. ⌜ r ≡ next st (now (rec .entry)) ⌝ }
-{
-    rules::next_state(st, k, judge::line_sums(rec, k))
-}
-
 // Whether a 50-01 closes a delega whose debits are below its credits.
 fn is_negative(st: State, k: Kind) -> bool
     ensures { λ r. ⌜ r ≡ negativeAt st k ⌝ }
@@ -121,7 +113,7 @@ pub fn survey(flow: &[u8]) -> Surveyed
         let kind = judge::kind_in(rec);
         negative = negative | is_negative(st, kind);
         fits = fits & stored_fit(st, kind);
-        st = step(rec, st, kind);
+        st = rules::next_state(st, kind, judge::line_sums(rec, kind));
     }
     Surveyed { negative, fits }
 }
@@ -206,7 +198,7 @@ fn settle(rec: &mut [u8], st: State) -> State
     ensures { λ r. ⌜ (r ≡ next st (now (rec .entry))) × (now (rec .exit) ≡ emit st (now (rec .entry))) ⌝ }
 {
     let kind = judge::kind_in(&*rec);
-    let after = step(&*rec, st, kind);
+    let after = rules::next_state(st, kind, judge::line_sums(&*rec, kind));
     fill(&mut *rec, st, kind);
     after
 }

@@ -97,3 +97,10 @@ state-on st k x g h =
       lines-below = lines-on (st .seen) (st .stage) k (g .lines-below);
       deleghe-below = deleghe-on (st .seen) (st .deleghe) k (g .deleghe-below);
     }
+
+-- after fewer than a thousand records a state has room for the step over one more
+pub step-room : (st : State) (x : Sums) → StateBelow st → st .seen < 1000 → Small x → (MoneyBelow 1_000_000_000_000_000_000 (st .money) × Small x) × ((st .stage .lines < 1000) × (st .deleghe < 1000) × (st .seen < 1000))
+step-room st x g f h =
+    let l = g .lines-below in
+    let d = g .deleghe-below in
+    ((money-room (st .seen * 1_000_000_000_000_000) _ (st .money) (omega arith) (g .money-below), h), (omega arith, omega arith, f))

@@ -2,11 +2,6 @@ pub mod Bytes
 pub mod Allowed
 pub mod Extremes
 pub mod Numerals
-pub mod Fields
-pub mod AllDigits
-pub mod EightDigits
-pub mod FifteenDigits
-pub mod NumberWords
 pub mod Puts
 pub mod Fits
 pub mod Writing

@@ -1,4 +1,3 @@
 pub mod Characters
 pub mod Numbers
 pub mod Placing
-pub mod Words

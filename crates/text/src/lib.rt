@@ -1,7 +1,5 @@
 // The text of a CBI F24 flow: which bytes are characters, what the digits of a field say, and how a part or a number is put into a
 // record. A record has 120 characters, and an amount has fifteen digits.
-mod words;
-
 ghost use mathlib.Core.Path.{_≡_};
 ghost use Prim.Native.Nat.{_+_, _*_, _^_, _≤_, min, max};
 ghost use lib.Dec.{ltb};
@@ -9,10 +7,6 @@ ghost use lib.ListN.{length, take};
 ghost use Rattle.text.specs.Characters.{firstBad, allAllowed};
 ghost use Rattle.text.specs.Numbers.{readNumber, digitsOf};
 ghost use Rattle.text.specs.Placing.{putAt, partFits, numberFits, partAnswer, partBytes, numberAnswer, numberBytes};
-pub use words::amount_at;
-pub use words::number_word;
-pub use words::pair_at;
-pub use words::word_at;
 
 pub enum Characters {
     Allowed,
@@ -23,12 +17,6 @@ pub enum Digits {
     Number(u64),
     NonDigit(usize),
     TooLong,
-}
-
-// What the characters of an amount, or eight of its fifteen, say: a number, or nothing where one of them is no digit.
-pub enum Fifteen {
-    Amount(u64),
-    NonDigit,
 }
 
 pub enum Put {

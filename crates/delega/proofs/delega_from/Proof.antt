@@ -3,7 +3,7 @@ use Rattle.delega.proofs.Search.{Searching, search-start, search-end, s
 use Rattle.judge.proofs.Turn.{sums-small}
 use Rattle.delega.specs.OneDelega.{delegaFrom}
 use Rattle.judge.specs.Flow.{recordsOf}
-use Rattle.rules.proofs.Growth.{money-room}
+use Rattle.rules.proofs.Growth.{step-room}
 use Rattle.rules.specs.State.{startState}
 use Rattle.rules.specs.declared.State.{State}
 use lib.ListN.{length, drop, length-take, length-drop}
@@ -74,9 +74,8 @@ line-sums-requires c κs = whole (c .before .before .before)
 next-state-requires : tie.Need-next-state-requires Inv-loop μ-loop
 next-state-requires c κs =
     let q = c .before .before .before .before in
-    let b = q .before .before .before .before .loop .inv .below in
     let s = small q in
-    ((money-room _ _ _ (omega arith) (b .money-below), rw (c .line-sums .ensures) (sums-small (c .before .before .before .kind-in .result) (r q) (whole q))), (omega (arith, b .lines-below), omega (arith, b .deleghe-below), omega arith))
+    step-room _ _ (q .before .before .before .before .loop .inv .below) (omega arith) (rw (c .line-sums .ensures) (sums-small (c .before .before .before .kind-in .result) (r q) (whole q)))
 
 loop-less : tie.Need-loop-less Inv-loop μ-loop
 loop-less c = let q = c .before .before .before .before .before in rw (c .next-state .ensures) (omega (arith, q .before .before .if1 .taken))

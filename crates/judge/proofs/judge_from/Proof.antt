@@ -4,7 +4,7 @@ use Rattle.judge.proofs.WaysOut.{values-good, values-bad, out-ended, ou
 use Rattle.judge.specs.Flow.{refusedWith, after, judgedFrom, restOf, headNameOf}
 use Rattle.judge.specs.Reading.{Clean, valuesRead}
 use Rattle.judge.specs.declared.Values.{Values}
-use Rattle.rules.proofs.Growth.{money-room, deleghe-on}
+use Rattle.rules.proofs.Growth.{step-room, deleghe-on}
 use Rattle.rules.specs.Values.{valuesIn, valuesOn}
 use Rattle.rules.specs.Step.{nextDeleghe, nextOf}
 use Rattle.rules.proofs.Reading.{pairOf}
@@ -21,12 +21,12 @@ use Rattle.layout.specs.declared.Form.{Form}
 use Rattle.layout.specs.declared.Kind.{Kind}
 use Rattle.layout.proofs.OtherKinds.{no-taxpayer}
 use Rattle.text.specs.Numbers.{numberOf, amountOf, digitsOf}
-use Rattle.text.specs.Words.{word, fifteenOf}
+use Rattle.words.specs.Words.{word, fifteenOf}
 use Rattle.text.specs.Characters.{firstBad}
 use Rattle.text.specs.declared.Characters.the-variants.{Allowed}
 use Rattle.text.specs.declared.Digits.the-variants.{Number}
 use Rattle.text.proofs.Allowed.{allowed-part}
-use Rattle.text.proofs.FifteenDigits.{amount-number}
+use Rattle.words.proofs.FifteenDigits.{amount-number}
 use lib.ListN.{length, take, drop, getD, set, replicate, length-take, length-drop}
 use lib.Seq.{drop-drop, take-all}
 use borrow.Author.Needs.{needs}
@@ -473,9 +473,8 @@ next-state-requires : tie.Need-next-state-requires Inv-loop μ-loop Inv-records 
 next-state-requires c κs =
     let v = c .before .before in
     let q = rv v in
-    let b = going q .below in
     let s = small q in
-    ((money-room _ _ _ (omega arith) (b .money-below), rw (met (v .before) .1) (pair-small (kindIn (r q)) (r q) (whole q))), (omega (arith, b .lines-below), omega (arith, b .deleghe-below), omega arith))
+    step-room _ _ (going q .below) (omega arith) (rw (met (v .before) .1) (pair-small (kindIn (r q)) (r q) (whole q)))
 
 records-less : tie.Need-records-less Inv-loop μ-loop Inv-records μ-records
 records-less c = rw (c .next-state .ensures) (omega (arith, within-clean (rv (c .before .before .before))))

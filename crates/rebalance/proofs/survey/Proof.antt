@@ -2,7 +2,7 @@
 -- answer. The measure is the number of records left.
 use Prim.Native.Nat.{ℕ, _-_, _/_, _<_}
 use mathlib.Core.List.{List}
-use mathlib.Core.Path.{ap, _∙_}
+use mathlib.Core.Path.{_≡_, ap, _∙_}
 use native.Mathlib.Omega.{arith}
 use borrow.Author.Needs.{needs}
 use lib.ListN.{length}
@@ -10,7 +10,7 @@ use Rattle.rules.specs.Step.{next}
 use Rattle.rules.specs.declared.State.{State}
 use Rattle.rebalance.specs.Weigh.{Turn}
 use Rattle.rebalance.proofs.Surveys.{Surveying, surveying-start, surveying-on, surveying-end}
-use Rattle.rebalance.proofs.Turns.{record-sized}
+use Rattle.rebalance.proofs.Turns.{next-by, turn-room, record-sized}
 use Rattle.rebalance.proofs.survey.Statement.{statement}
 use Rattle.rebalance.proofs.survey.Tie as tie
 
@@ -66,17 +66,24 @@ is-negative-requires c κs = search needs
 stored-fit-requires : tie.Need-stored-fit-requires Inv-loop μ-loop
 stored-fit-requires c κs = turn (c .before .before) .few
 
-step-requires : tie.Need-step-requires Inv-loop μ-loop
-step-requires c κs = (turn (c .before .before .before), c .before .before .kind-in .ensures)
+line-sums-requires : tie.Need-line-sums-requires Inv-loop μ-loop
+line-sums-requires c κs = turn (c .before .before .before) .sized
+
+next-state-requires : tie.Need-next-state-requires Inv-loop μ-loop
+next-state-requires c κs = turn-room _ _ (c .before .before .before .kind-in .result) _ (turn (c .before .before .before .before)) (c .line-sums .ensures)
+
+-- The state after the record.
+on : (c : tie.After-next-state Inv-loop μ-loop) → c .next-state .result ≡ next (st (c .before .before .before .before .before)) (r (c .before .before .before .before .before))
+on c = c .next-state .ensures ∙ next-by _ _ _ _ (c .before .before .before .before .kind-in .ensures) (c .before .line-sums .ensures)
 
 loop-less : tie.Need-loop-less Inv-loop μ-loop
 unfolding next
-loop-less c = let m = more (c .before .before .before .before) in rw (c .step .ensures) (omega arith)
+loop-less c = let m = more (c .before .before .before .before .before) in rw (on c) (omega arith)
 
 loop-again : tie.Need-loop-again Inv-loop μ-loop
 loop-again c =
-    let q = c .before .before .before .before in
-    rw (c .step .ensures, c .before .before .is-negative .ensures, c .before .stored-fit .ensures) (surveying-on (flow q) (st q) _ _ (q .before .before .before .before .loop .inv) (more q) (r q) (c .before .before .before .kind-in .result) (q .record-at .ensures) (c .before .before .before .kind-in .ensures) (turn q))
+    let q = c .before .before .before .before .before in
+    rw (on c, c .before .before .before .is-negative .ensures, c .before .before .stored-fit .ensures) (surveying-on (flow q) (st q) _ _ (q .before .before .before .before .loop .inv) (more q) (r q) (c .before .before .before .before .kind-in .result) (q .record-at .ensures) (c .before .before .before .before .kind-in .ensures) (turn q))
 
 returns : tie.Need-returns Inv-loop μ-loop
 returns c = surveying-end _ _ _ _ (c .before .before .loop .inv) (c .if1 .left)
@@ -94,7 +101,8 @@ survey-spec =
     kind-in-requires
     is-negative-requires
     stored-fit-requires
-    step-requires
+    line-sums-requires
+    next-state-requires
     loop-less
     loop-again
     returns)

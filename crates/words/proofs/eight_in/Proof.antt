@@ -1,9 +1,9 @@
--- `text::words::eight_in` meets its contract: the test tells digits from other characters, and leaves each step room.
+-- `words::eight_in` meets its contract: the test tells digits from other characters, and leaves each step room.
 use mathlib.Core.Path.{sym}
 use native.Mathlib.Omega.{arith}
-use Rattle.text.proofs.EightDigits.{eight-room, eight-none, eight-lanes, eight-pairs, eight-fours, eight-said}
-use Rattle.text.proofs.words.eight_in.Statement.{statement}
-use Rattle.text.proofs.words.eight_in.Tie as tie
+use Rattle.words.proofs.EightDigits.{eight-room, eight-none, eight-lanes, eight-pairs, eight-fours, eight-said}
+use Rattle.words.proofs.eight_in.Statement.{statement}
+use Rattle.words.proofs.eight_in.Tie as tie
 
 add-if1 : tie.Need-add-if1
 add-if1 c = omega (arith, eight-room (c .args .w) (c .pre))

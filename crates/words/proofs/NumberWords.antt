@@ -6,15 +6,15 @@ use native.Mathlib.Omega.{arith}
 use native.Mathlib.Nat.{pow-suc}
 use lib.ListN.{length, take, drop, getD, length-drop}
 use lib.Seq.{length-take-le}
 use Rattle.text.specs.declared.Characters.the-variants.{Allowed}
 use Rattle.text.specs.declared.Digits.the-variants.{Number}
 use Rattle.text.specs.Characters.{firstBad}
 use Rattle.text.specs.Numbers.{numberOf, digitsOf}
-use Rattle.text.specs.Words.{word}
+use Rattle.words.specs.Words.{word}
 use Rattle.text.proofs.Bytes.{drop-one}
-use Rattle.text.proofs.Allowed.{allowed-take, allowed-drop, allowed-digits}
+use Rattle.text.proofs.Allowed.{allowed-digits}
 use Rattle.text.proofs.Numerals.{number-digits, length-digits, digits-of-number}
-use Rattle.text.proofs.Fields.{word-inj}
+use Rattle.words.proofs.Fields.{allowed-at-most, at-most-take, at-most-drop, word-inj}
 
 -- One digit more than a number needs is a zero in front.
 digits-more : (w n : ℕ) → n < 10 ^ w → digitsOf (suc w) n ≡ 48 ∷ digitsOf w n
@@ -30,7 +30,7 @@ eight-seven l i h = rw (drop-one l i (omega arith))
 pub same-number : (l : List ℕ) (i d : ℕ) → firstBad l ≡ Allowed → i + 8 ≤ length l → d < 1000 → word (take 8 (drop i l)) ≡ word (digitsOf 8 d) → numberOf (take 7 (drop (i + 1) l)) ≡ Number d
 same-number l i d ok h k e =
     let n : length (take 8 (drop i l)) ≡ 8 = length-take-le 8 (drop i l) (rw length-drop (omega arith)) in
-    let s : take 8 (drop i l) ≡ digitsOf 8 d = word-inj (take 8 (drop i l)) (digitsOf 8 d) (allowed-take 8 (drop i l) 0 (allowed-drop i l 0 ok)) (allowed-digits 8 d) (n ∙ sym (length-digits 8 d)) e in
+    let s : take 8 (drop i l) ≡ digitsOf 8 d = word-inj (take 8 (drop i l)) (digitsOf 8 d) (at-most-take 127 8 (drop i l) (at-most-drop 127 i l (allowed-at-most l ok))) (allowed-at-most (digitsOf 8 d) (allowed-digits 8 d)) (n ∙ sym (length-digits 8 d)) e in
     let t : getD l i 0 ∷ take 7 (drop (i + 1) l) ≡ 48 ∷ digitsOf 7 d = sym (eight-seven l i h) ∙ (s ∙ digits-more 7 d (omega arith)) in
     let u : take 7 (drop (i + 1) l) ≡ digitsOf 7 d = cc in
     rw u (number-digits 7 d (omega arith))

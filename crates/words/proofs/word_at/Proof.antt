@@ -1,9 +1,9 @@
--- `text::words::word_at` meets its contract: a word is two words of four bytes.
+-- `words::word_at` meets its contract: a word is two words of four bytes.
 use native.Mathlib.Omega.{arith}
 use borrow.Author.Needs.{needs}
-use Rattle.text.proofs.Fields.{eight-word}
-use Rattle.text.proofs.words.word_at.Statement.{statement}
-use Rattle.text.proofs.words.word_at.Tie as tie
+use Rattle.words.proofs.Fields.{eight-word}
+use Rattle.words.proofs.word_at.Statement.{statement}
+use Rattle.words.proofs.word_at.Tie as tie
 
 four-at-requires : tie.Need-four-at-requires
 four-at-requires c κs = search needs

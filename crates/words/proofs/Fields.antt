@@ -1,32 +1,44 @@
 -- Laws of words: fields of bits side by side, the bytes of a list as one number, and neighbouring fields joined to wider ones.
 use Prim.Native.Nat.{ℕ, zero, suc, _+_, _-_, _*_, _/_, _%_, _^_, _<_, _≤_}
 use mathlib.Core.Path.{_≡_, refl, sym, ap, _∙_}
-use mathlib.Core.List.{List, [], _∷_}
+use mathlib.Core.List.{List, [], _∷_, _++_}
 use native.Mathlib.Omega.{arith}
 use native.Mathlib.Nat.{mod-eq-of-lt, div-eq-of-lt, div-add-mod', mul-add-mod-self-right, mul-add-div-right, mul-le-mul-right}
 use lib.Bits.{bitAnd, and-block, and-mask, and-zero-r}
 use lib.Pow.{pow-add}
 use lib.ListN.{length, take, drop, getD, replicate}
 use Rattle.text.specs.declared.Characters.the-variants.{Allowed}
 use Rattle.text.specs.Characters.{firstBad}
 use Rattle.text.specs.Numbers.{digitsOf}
-use Rattle.text.specs.Words.{wordBy, word}
+use Rattle.words.specs.Words.{wordBy, word, AtMost}
+use Rattle.words.specs.Words.AtMost.{none, also}
 use Rattle.text.proofs.Bytes.{drop-one}
 use Rattle.text.proofs.Allowed.{allowed-at}
-
--- Every number of a list is at most m.
-pub data AtMost (m : ℕ) : List ℕ → Type 0 where
-  none : AtMost m []
-  also : {b : ℕ} {bs : List ℕ} → b ≤ m → AtMost m bs → AtMost m (b ∷ bs)
 
 -- Numbers that are at most m at each place are so all together.
-at-most-each : (m : ℕ) (l : List ℕ) → ((i : ℕ) → i < length l → getD l i 0 ≤ m) → AtMost m l
+pub at-most-each : (m : ℕ) (l : List ℕ) → ((i : ℕ) → i < length l → getD l i 0 ≤ m) → AtMost m l
 at-most-each m [] f = none
 at-most-each m (b ∷ bs) f = also (f 0 (omega arith)) (at-most-each m bs (λ i h. f (suc i) (omega arith)))
 
--- Characters are at most 126.
-pub allowed-at-most : (l : List ℕ) → firstBad l ≡ Allowed → AtMost 126 l
-allowed-at-most l ok = at-most-each 126 l (λ i h. allowed-at l i ok h .1)
+-- The top bit of a character is clear.
+pub allowed-at-most : (l : List ℕ) → firstBad l ≡ Allowed → AtMost 127 l
+allowed-at-most l ok = at-most-each 127 l (λ i h. omega (arith, allowed-at l i ok h .1))
+
+-- The front of a list, and what is behind it, have no larger numbers.
+pub at-most-take : (m n : ℕ) (l : List ℕ) → AtMost m l → AtMost m (take n l)
+at-most-take m zero l p = none
+at-most-take m (suc n) [] p = none
+at-most-take m (suc n) (b ∷ bs) (also h p) = also h (at-most-take m n bs p)
+
+pub at-most-drop : (m n : ℕ) (l : List ℕ) → AtMost m l → AtMost m (drop n l)
+at-most-drop m zero l p = p
+at-most-drop m (suc n) [] p = none
+at-most-drop m (suc n) (b ∷ bs) (also h p) = at-most-drop m n bs p
+
+-- Two lists, one after the other.
+pub at-most-append : (m : ℕ) (xs ys : List ℕ) → AtMost m xs → AtMost m ys → AtMost m (xs ++ ys)
+at-most-append m [] ys p q = q
+at-most-append m (x ∷ xs) ys (also h p) q = also h (at-most-append m xs ys p q)
 
 -- A word whose fields are at most m is at most the word of as many fields m.
 pub word-at-most : (k m : ℕ) (l : List ℕ) → AtMost m l → wordBy k l ≤ wordBy k (replicate (length l) m)
@@ -34,20 +46,16 @@ unfolding wordBy
 word-at-most k m [] none = omega arith
 word-at-most k m (b ∷ bs) (also h p) = omega (arith, mul-le-mul-right (2 ^ k) (word-at-most k m bs p))
 
--- Two lists of characters of one length that make one word are equal.
-word-same : (xs ys : List ℕ) → AtMost 126 xs → AtMost 126 ys → length xs ≡ length ys → word xs ≡ word ys → xs ≡ ys
+-- Two lists of one length, with every top bit clear, that make one word are equal.
+pub word-inj : (xs ys : List ℕ) → AtMost 127 xs → AtMost 127 ys → length xs ≡ length ys → word xs ≡ word ys → xs ≡ ys
 unfolding wordBy
-word-same [] [] p q e f = refl
-word-same [] (y ∷ ys) p q e f = absurd (omega arith)
-word-same (x ∷ xs) [] p q e f = absurd (omega arith)
-word-same (x ∷ xs) (y ∷ ys) (also h p) (also i q) e f =
+word-inj [] [] p q e f = refl
+word-inj [] (y ∷ ys) p q e f = absurd (omega arith)
+word-inj (x ∷ xs) [] p q e f = absurd (omega arith)
+word-inj (x ∷ xs) (y ∷ ys) (also h p) (also i q) e f =
     let a : x ≡ y = omega arith in
-    let b : xs ≡ ys = word-same xs ys p q (omega arith) (omega arith) in
+    let b : xs ≡ ys = word-inj xs ys p q (omega arith) (omega arith) in
     cc
-
--- Allowed parts of one length are known by their words.
-pub word-inj : (xs ys : List ℕ) → firstBad xs ≡ Allowed → firstBad ys ≡ Allowed → length xs ≡ length ys → word xs ≡ word ys → xs ≡ ys
-word-inj xs ys p q = word-same xs ys (allowed-at-most xs p) (allowed-at-most ys q)
 
 -- The first byte of a word, and the word of the bytes behind it.
 word-cons : (l : List ℕ) (i j n : ℕ) → i < length l → i + 1 ≡ j → word (take (suc n) (drop i l)) ≡ word (take n (drop j l)) * 256 + getD l i 0

@@ -3,17 +3,17 @@ use Prim.Native.Nat.{ℕ, zero, suc, _+_, _-_, _*_, _/_, _%_, _^_, _<_, _≤_}
 use mathlib.Core.Path.{_≡_, refl, sym, ap, _∙_}
 use mathlib.Core.List.{List, [], _∷_}
 use native.Mathlib.Omega.{arith}
-use native.Mathlib.Nat.{mod-eq-of-lt, div-lt-iff-lt-mul}
 use lib.Bits.{bitAnd, bitXor, and-block, xor-block, and-high, and-mask, xor-add-and, xor-lt, and-le-l}
 use lib.Dec.{lit<}
 use lib.ListN.{length, replicate}
-use Rattle.text.specs.declared.Fifteen.the-variants as Said
+use Rattle.words.specs.declared.Fifteen.the-variants as Said
 use Rattle.text.specs.Numbers.{numberOf}
-use Rattle.text.specs.Words.{wordBy, word, fifteenOf, Spelt}
-use Rattle.text.proofs.Fields.{AtMost, allowed-at-most, word-at-most, paired, paired-length, paired-at-most, joined}
-use Rattle.text.proofs.Fields.AtMost.{also}
-use Rattle.text.proofs.AllDigits.{AllDigits, values, values-length, values-at-most, horner, digits-say, say-none}
-use Rattle.text.proofs.AllDigits.AllDigits.{no-more, one-more}
+use Rattle.words.specs.Words.{wordBy, word, fifteenOf, AtMost, Spelt}
+use Rattle.words.specs.Words.AtMost.{also}
+use Rattle.words.proofs.Fields.{word-at-most, paired, paired-length, paired-at-most, joined}
+use Rattle.words.proofs.AllDigits.{AllDigits, values, values-length, values-at-most, horner, digits-say, say-none}
+use Rattle.words.proofs.AllDigits.AllDigits.{no-more, one-more}
+use Rattle.words.proofs.TopBits.{top-clear, clear-top}
 
 -- The exclusive or of a digit and 48 is what the digit says.
 digit-bits : (b : ℕ) → 48 ≤ b → b ≤ 57 → bitXor b 48 ≡ b - 48
@@ -31,17 +31,6 @@ bits-digit b h =
     let l = and-le-l b 48 in
     (omega arith, omega arith)
 
--- The top bit of a byte is clear where the byte is below 128.
-top-clear : (t : ℕ) → t < 128 → bitAnd t 128 ≡ 0
-top-clear t h = let a : bitAnd t 128 ≡ t / 128 % 2 * 128 = and-high t 1 7 in omega arith
-
--- A byte whose top bit is clear is below 128.
-clear-top : (t : ℕ) → t < 256 → bitAnd t 128 ≡ 0 → t < 128
-clear-top t h e =
-    let a : bitAnd t 128 ≡ t / 128 % 2 * 128 = and-high t 1 7 in
-    let q : t / 128 % 2 ≡ t / 128 = mod-eq-of-lt (div-lt-iff-lt-mul (lit< tt) .1 h) in
-    omega arith
-
 -- What the test leaves of each character: 0 for a digit, and 128 for another.
 abbrev flags : List ℕ → List ℕ
 flags [] = []
@@ -52,7 +41,7 @@ abbrev pub tested : ℕ → ℕ → ℕ
 tested n w = bitAnd (bitXor w (word (replicate n 48)) + word (replicate n 118)) (word (replicate n 128))
 
 -- The test works on each character by itself.
-test-each : (l : List ℕ) → AtMost 126 l → tested (length l) (word l) ≡ word (flags l)
+test-each : (l : List ℕ) → AtMost 127 l → tested (length l) (word l) ≡ word (flags l)
 unfolding wordBy
 test-each [] p = refl
 test-each (b ∷ bs) (also h p) =
@@ -75,7 +64,7 @@ digits-clear (b ∷ bs) (one-more h j p) =
     omega arith
 
 -- Where nothing is left, all are digits.
-clear-digits : (l : List ℕ) → AtMost 126 l → word (flags l) ≡ 0 → AllDigits l
+clear-digits : (l : List ℕ) → AtMost 127 l → word (flags l) ≡ 0 → AllDigits l
 unfolding wordBy
 clear-digits [] p e = no-more
 clear-digits (b ∷ bs) (also h p) e =
@@ -85,7 +74,7 @@ clear-digits (b ∷ bs) (also h p) e =
     one-more (d .0) (d .1) (clear-digits bs p (omega arith))
 
 -- The exclusive or of a word of characters and 48 in each place stays small enough for the test's sum.
-xor-at-most : (l : List ℕ) → AtMost 126 l → bitXor (word l) (word (replicate (length l) 48)) ≤ word (replicate (length l) 127)
+xor-at-most : (l : List ℕ) → AtMost 127 l → bitXor (word l) (word (replicate (length l) 48)) ≤ word (replicate (length l) 127)
 unfolding wordBy
 xor-at-most [] p = omega arith
 xor-at-most (b ∷ bs) (also h p) =
@@ -157,17 +146,14 @@ module _ (ds : List ℕ) (p : AtMost 9 ds) (e : length ds ≡ 8) where
 
 -- A word of eight characters.
 module _ (w : ℕ) (s : Spelt w) where
-  small : AtMost 126 (s .chars)
-  small = allowed-at-most (s .chars) (s .fine)
-
   -- The exclusive or leaves the test's sum room.
   pub eight-room : bitXor w 0x3030_3030_3030_3030 ≤ 0x7f7f_7f7f_7f7f_7f7f
   unfolding wordBy
-  eight-room = rw (s .eight, ← (s .whole)) at (xor-at-most (s .chars) small)
+  eight-room = rw (s .eight, ← (s .whole)) at (xor-at-most (s .chars) (s .fine))
 
   tested-is : testOf w ≡ word (flags (s .chars))
   unfolding wordBy
-  tested-is = rw (s .eight, ← (s .whole)) at (test-each (s .chars) small)
+  tested-is = rw (s .eight, ← (s .whole)) at (test-each (s .chars) (s .fine))
 
   -- Where the test fails, one of the eight is no digit.
   pub eight-none : (testOf w ≡ 0 → ⊥) → fifteenOf (numberOf (s .chars)) ≡ Said.NonDigit
@@ -175,7 +161,7 @@ module _ (w : ℕ) (s : Spelt w) where
 
   module _ (t : testOf w ≡ 0) where
     digits : AllDigits (s .chars)
-    digits = clear-digits (s .chars) small (sym tested-is ∙ t)
+    digits = clear-digits (s .chars) (s .fine) (sym tested-is ∙ t)
 
     at-most : AtMost 9 (values (s .chars))
     at-most = values-at-most (s .chars) digits

@@ -3,11 +3,16 @@
 ghost use mathlib.Core.Path.{_≡_};
 ghost use Prim.Native.Nat.{_+_, _*_, _<_, _≤_};
 ghost use lib.ListN.{length, take, drop, getD};
 ghost use Rattle.text.specs.declared.Characters.the-variants.{Allowed};
 ghost use Rattle.text.specs.Characters.{firstBad};
 ghost use Rattle.text.specs.Numbers.{numberOf, digitsOf};
-ghost use Rattle.text.specs.Words.{word, fifteenOf, Spelt};
-use crate::Fifteen;
+ghost use Rattle.words.specs.Words.{word, fifteenOf, Spelt, Halves};
+
+// What the characters of an amount, or eight of its fifteen, say: a number, or nothing where one of them is no digit.
+pub enum Fifteen {
+    Amount(u64),
+    NonDigit,
+}
 
 // Two bytes of a part.
 pub fn pair_at(part: &[u8], at: usize) -> u64
@@ -51,13 +56,11 @@ fn eight_in(w: u64) -> Fifteen
     Fifteen::Amount((fours * 10000 + fours / 0x1_0000_0000) % 0x1_0000_0000)
 }
 
-// The amount that fifteen characters say: nearly always the first eight are zeros, and often all.
-pub fn amount_at(part: &[u8], at: usize) -> Fifteen
-    requires { ⌜ (at + 15 ≤ length (now part)) × (firstBad (now part) ≡ Allowed) ⌝ }
-    ensures { λ r. ⌜ r ≡ fifteenOf (numberOf (take 15 (drop at (now (part .entry))))) ⌝ }
+// The amount that fifteen characters say, by the words of the first and of the last eight: nearly always the first eight are zeros, and often all.
+fn fifteen_in(front: u64, back: u64) -> Fifteen
+    requires { ⌜ Halves front back ⌝ }
+    ensures { λ r. ⌜ ((s : Halves front back) → r ≡ fifteenOf (numberOf (s .chars))) ⌝ }
 {
-    let front = word_at(part, at);
-    let back = word_at(part, at + 7);
     if front == 0x3030_3030_3030_3030 {
         if back == 0x3030_3030_3030_3030 {
             return Fifteen::Amount(0);
@@ -71,6 +74,30 @@ pub fn amount_at(part: &[u8], at: usize) -> Fifteen
         return Fifteen::NonDigit;
     };
     Fifteen::Amount(high / 10 * 1_0000_0000 + low)
+}
+
+// The amount that fifteen characters of a part say.
+pub fn amount_at(part: &[u8], at: usize) -> Fifteen
+    requires { ⌜ (at + 15 ≤ length (now part)) × (firstBad (now part) ≡ Allowed) ⌝ }
+    ensures { λ r. ⌜ r ≡ fifteenOf (numberOf (take 15 (drop at (now (part .entry))))) ⌝ }
+{
+    fifteen_in(word_at(part, at), word_at(part, at + 7))
+}
+
+// The same of a part with any bytes: one with its top bit set is no digit, and leaves no room for the arithmetic.
+pub fn any_amount_at(part: &[u8], at: usize) -> Fifteen
+    requires { ⌜ at + 15 ≤ length (now part) ⌝ }
+    ensures { λ r. ⌜ r ≡ fifteenOf (numberOf (take 15 (drop at (now (part .entry))))) ⌝ }
+{
+    let front = word_at(part, at);
+    let back = word_at(part, at + 7);
+    if front & 0x8080_8080_8080_8080 != 0 {
+        return Fifteen::NonDigit;
+    }
+    if back & 0x8080_8080_8080_8080 != 0 {
+        return Fifteen::NonDigit;
+    }
+    fifteen_in(front, back)
 }
 
 // The word of a number below 1000 in eight digits.

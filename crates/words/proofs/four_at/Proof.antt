@@ -1,10 +1,10 @@
--- `text::words::four_at` meets its contract: four bytes are below 256 each, so that their sum fits.
+-- `words::four_at` meets its contract: four bytes are below 256 each, so that their sum fits.
 use Prim.Native.Nat.{_+_}
 use native.Mathlib.Omega.{arith}
 use borrow.Author.Needs.{needs}
-use Rattle.text.proofs.Fields.{four-word}
-use Rattle.text.proofs.words.four_at.Statement.{statement}
-use Rattle.text.proofs.words.four_at.Tie as tie
+use Rattle.words.proofs.Fields.{four-word}
+use Rattle.words.proofs.four_at.Statement.{statement}
+use Rattle.words.proofs.four_at.Tie as tie
 
 shared-slice-read-a : tie.Need-shared-slice-read-a
 shared-slice-read-a c = search needs

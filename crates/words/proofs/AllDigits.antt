@@ -4,15 +4,14 @@ use mathlib.Core.Path.{_≡_, refl, ap}
 use mathlib.Core.List.{List, [], _∷_}
 use native.Mathlib.Omega.{arith}
 use lib.ListN.{length}
 use Rattle.text.specs.declared.Digits.{Digits}
 use Rattle.text.specs.declared.Digits.the-variants.{Number, NonDigit, TooLong}
-use Rattle.text.specs.declared.Fifteen.the-variants as Said
+use Rattle.words.specs.declared.Fifteen.the-variants as Said
 use Rattle.text.specs.Numbers.{numberFrom, numberOf}
-use Rattle.text.specs.Words.{fifteenOf}
+use Rattle.words.specs.Words.{fifteenOf, AtMost}
+use Rattle.words.specs.Words.AtMost.{none, also}
 use Rattle.text.proofs.Bytes.{between, within}
 use Rattle.text.proofs.Numerals.{number-parts}
-use Rattle.text.proofs.Fields.{AtMost}
-use Rattle.text.proofs.Fields.AtMost.{none, also}
 
 -- Every character of a list is a digit.
 pub data AllDigits : List ℕ → Type 0 where

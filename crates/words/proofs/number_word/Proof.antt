@@ -1,9 +1,9 @@
--- `text::words::number_word` meets its contract by the law of the same name.
+-- `words::number_word` meets its contract by the law of the same name.
 use mathlib.Core.Path.{sym}
 use borrow.Author.Needs.{needs}
-use Rattle.text.proofs.Fields.{number-word}
-use Rattle.text.proofs.words.number_word.Statement.{statement}
-use Rattle.text.proofs.words.number_word.Tie as tie
+use Rattle.words.proofs.Fields.{number-word}
+use Rattle.words.proofs.number_word.Statement.{statement}
+use Rattle.words.proofs.number_word.Tie as tie
 
 mul-result : tie.Need-mul-result
 mul-result c = search needs

@@ -1,9 +1,9 @@
--- `text::words::pair_at` meets its contract: two bytes are below 256 each, so that their sum fits.
+-- `words::pair_at` meets its contract: two bytes are below 256 each, so that their sum fits.
 use Prim.Native.Nat.{_+_}
 use native.Mathlib.Omega.{arith}
 use borrow.Author.Needs.{needs}
-use Rattle.text.proofs.words.pair_at.Statement.{statement}
-use Rattle.text.proofs.words.pair_at.Tie as tie
+use Rattle.words.proofs.pair_at.Statement.{statement}
+use Rattle.words.proofs.pair_at.Tie as tie
 
 shared-slice-read-result : tie.Need-shared-slice-read-result
 shared-slice-read-result c = search needs
