@@ -3,7 +3,6 @@ use Prim.Native.Nat.{ℕ, _<_}
 use mathlib.Core.Path.{_≡_, ap, _∙_}
 use native.Mathlib.Omega.{arith}
 use lib.ListN.{length, getD}
-use Rattle.layout.specs.declared.Field.{Field}
 use Rattle.layout.specs.declared.Fields.{Fields}
 use Rattle.layout.specs.declared.Kind.{Kind}
 use Rattle.layout.specs.Fields.{Within, nowhere, listed, fieldsOf}

@@ -1,5 +1,5 @@
 -- A turn of the judge: the state that it has come to, and what each of its ways out says of the whole flow.
-use Prim.Native.Nat.{ℕ, zero, suc, min, _+_, _-_, _*_, _/_, _%_, _^_, _<_, _≤_}
+use Prim.Native.Nat.{ℕ, zero, suc, _+_, _-_, _*_, _/_, _%_, _<_, _≤_}
 use mathlib.Core.Path.{_≡_, refl, sym, ap, _∙_}
 use mathlib.Core.List.{List, [], _∷_, _++_, map, append-assoc, map-append}
 use native.Mathlib.Omega.{arith}
@@ -12,20 +12,19 @@ use lib.Dec.{lit<}
 use native.Mathlib.Numerals.{add-one}
 use borrow.Author.Tests.{lt-ltb, le-ltb, eq-eqb, ne-eqb}
 use native.Mathlib.Decide.{decLt}
-use lib.ListN.{length, take, drop, getD, set, replicate, length-map, length-take, length-drop, drop-of-length-le, List·getD-append, List·getD-map}
+use lib.ListN.{length, take, drop, getD, set, replicate, length-map, length-drop, drop-of-length-le, List·getD-append, List·getD-map}
 use lib.Seq.{drop-cons, set-at, take-suc, take-all, length-take-le, getD-append-add}
 use Rattle.text.specs.declared.Digits.{Digits}
 use Rattle.text.specs.declared.Digits.the-variants.{Number, NonDigit, TooLong}
 use Rattle.text.specs.Characters.{firstBad}
-use Rattle.text.specs.Numbers.{numberFrom, numberOf, amountOf}
+use Rattle.text.specs.Numbers.{numberFrom, numberOf}
 use Rattle.text.proofs.Numerals.{number-below}
 use Rattle.layout.specs.declared.Field.{Field}
 use Rattle.layout.specs.declared.Kind.{Kind}
 use Rattle.layout.specs.declared.Kind.the-variants.{Head, Taxpayer, Domicile, Line, Balance, Payment, Receipt, Addressee, Tail, Unknown}
 use Rattle.layout.specs.Kinds.{typeIn, kindIn}
 use Rattle.layout.specs.Fields.{Within, nowhere, fieldsOf, bytesOf, valueOf, delegaNumber}
-use Rattle.layout.proofs.Within.{fields-within, fields-four}
-use Rattle.amounts.specs.declared.Sums.{Sums}
+use Rattle.layout.proofs.Within.{fields-within}
 use Rattle.amounts.specs.declared.Outcome.{Outcome}
 use Rattle.amounts.specs.declared.Outcome.the-variants.{Pass, Fault}
 use Rattle.rules.specs.declared.State.{State}
@@ -33,14 +32,13 @@ use Rattle.rules.specs.State.{noSums, startState}
 use Rattle.rules.specs.Bounds.{Small, StateBelow}
 use Rattle.amounts.specs.Outcomes.{first}
 use Rattle.order.specs.Order.{standing}
-use Rattle.rules.specs.Checks.{charFault, orBad, badFields, numberFault, ownFault, fault}
-use Rattle.rules.specs.Stored.{storedOf, wrong}
+use Rattle.rules.specs.Checks.{charFault, orBad, badFields, numberFault, fault}
 use Rattle.rules.specs.Values.{valuesIn, valuesOn}
 use Rattle.rules.specs.Step.{lineSums, nextOf, next}
 use Rattle.rules.proofs.Reading.{pairOf, values-read, step-read}
 use Rattle.rules.proofs.Growth.{start-below, state-on}
 use Rattle.judge.specs.declared.Judgement.{Judgement}
-use Rattle.judge.specs.Flow.{refusedWith, closing, after, judgedFrom, chunks, restOf, recordsOf, headNameOf, judged, Ready}
+use Rattle.judge.specs.Flow.{refusedWith, closing, after, judgedFrom, chunks, restOf, headNameOf, judged, Ready}
 use Rattle.judge.proofs.Records.{chunks-on}
 
 -- the first failed check of a record, by how far the checks have come

@@ -11,7 +11,7 @@ use Rattle.text.specs.declared.Digits.{Digits}
 use Rattle.text.specs.declared.Digits.the-variants.{Number, NonDigit, TooLong}
 use Rattle.text.specs.Characters.{firstBad}
 use Rattle.text.specs.Numbers.{numberOf}
-use Rattle.text.proofs.Allowed.{Bad, not-allowed}
+use Rattle.text.proofs.Allowed.{not-allowed}
 use Rattle.layout.specs.declared.Field.{Field}
 use Rattle.layout.specs.Kinds.{typeIn, kindIn}
 use Rattle.layout.specs.Fields.{delegaNumber, fieldsOf, bytesOf, valueOf}

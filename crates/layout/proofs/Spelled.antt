@@ -14,7 +14,7 @@ use Rattle.layout.specs.declared.Kind.{Kind}
 use Rattle.layout.specs.declared.Kind.the-variants.{Unknown}
 use Rattle.layout.specs.declared.RecordType.{RecordType}
 use Rattle.layout.specs.declared.RecordType.the-variants.{F4, T10, T20, T40, T50, EF, NoType}
-use Rattle.layout.specs.Kinds.{same, typeOf, sectionKindFrom, sectionKind, paymentKind, named, kindOf, typeIn, subtypeIn, kindIn}
+use Rattle.layout.specs.Kinds.{same, typeOf, sectionKindFrom, sectionKind, paymentKind, named, kindOf, subtypeIn, kindIn}
 use Rattle.layout.specs.Forms.{numbered}
 
 -- the type of two characters is that of their word

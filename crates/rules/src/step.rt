@@ -2,10 +2,8 @@
 ghost use mathlib.Core.Path.{_≡_};
 ghost use Prim.Native.Nat.{_<_};
 ghost use Rattle.rules.specs.State.{noSums};
-ghost use Rattle.order.specs.Stages.{stageAt};
 ghost use Rattle.rules.specs.Bounds.{SumsBelow, MoneyBelow, Small, Room};
 ghost use Rattle.rules.specs.Step.{added, addedAt, nextDeleghe, nextMoney, nextOf};
-ghost use Rattle.order.specs.Order.{nextStage};
 use crate::DelegaSums;
 use crate::Money;
 use crate::State;

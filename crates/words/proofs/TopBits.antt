@@ -1,5 +1,5 @@
 -- Laws of the top bits of bytes: a word whose eight are clear is one of bytes below 128, and digits have no other.
-use Prim.Native.Nat.{ℕ, _+_, _*_, _/_, _%_, _^_, _<_, _≤_}
+use Prim.Native.Nat.{ℕ, _+_, _*_, _/_, _%_, _^_, _<_}
 use mathlib.Core.Path.{_≡_, refl, ap, sym, _∙_}
 use mathlib.Core.List.{List, [], _∷_}
 use native.Mathlib.Omega.{arith}
@@ -10,7 +10,7 @@ use lib.ListN.{length, replicate}
 use Rattle.words.specs.Words.{wordBy, word, AtMost}
 use Rattle.words.specs.Words.AtMost.{none, also}
 use Rattle.words.proofs.AllDigits.{AllDigits}
-use Rattle.words.proofs.AllDigits.AllDigits.{no-more, one-more}
+use Rattle.words.proofs.AllDigits.AllDigits.{one-more}
 
 -- The top bit of a byte is clear where the byte is below 128.
 pub top-clear : (t : ℕ) → t < 128 → bitAnd t 128 ≡ 0

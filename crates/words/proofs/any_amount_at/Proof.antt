@@ -1,5 +1,4 @@
 -- `words::any_amount_at` meets its contract: a byte with its top bit set is no digit.
-use Prim.Native.Nat.{_+_, _≤_}
 use mathlib.Core.Path.{sym, ap, _∙_}
 use native.Mathlib.Omega.{arith}
 use borrow.Author.Needs.{needs}

@@ -1,6 +1,6 @@
 use lib.Seq.{set-out}
 use native.Mathlib.Omega.{arith}
-use mathlib.Core.Path.{_≡_, refl, sym, ap, _∙_}
+use mathlib.Core.Path.{sym}
 use Rattle.rules.specs.Step.{addedAt}
 use borrow.Author.Needs.{needs}
 use Rattle.rules.proofs.step.plus_at.Statement.{statement}

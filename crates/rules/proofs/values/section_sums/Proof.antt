@@ -4,7 +4,7 @@ use Rattle.rules.proofs.Arrays.{struct-array}
 use Prim.Native.Nat.{_≤_}
 use lib.ListN.{length, List·getD-eq-default}
 use native.Mathlib.Omega.{arith}
-use mathlib.Core.Path.{_≡_, refl, sym, ap, _∙_}
+use mathlib.Core.Path.{_≡_, sym}
 use borrow.Author.Needs.{needs}
 use Rattle.rules.proofs.values.section_sums.Statement.{statement}
 use Rattle.rules.proofs.values.section_sums.Tie as tie
