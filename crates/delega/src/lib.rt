@@ -63,12 +63,12 @@ fn delega_from(flow: &[u8], number: u64) -> DelegaAnswer
     let count = flow.len() / Flow::RECORD;
     let mut st = rules::start();
     while st.seen < count {
-        let rec = judge::record_at(flow, st.seen * Flow::RECORD);
-        let kind = judge::kind_in(rec);
+        let rec = records::record_at(flow, st.seen * Flow::RECORD);
+        let kind = records::kind_in(rec);
         if closes(number, st.deleghe, kind) {
             return answer_of(st);
         }
-        st = rules::next_state(st, kind, judge::line_sums(rec, kind));
+        st = rules::next_state(st, kind, records::line_sums(rec, kind));
     }
     refused(21, 0, 0)
 }

@@ -49,8 +49,8 @@ fn line_in(flow: &[u8], delega: u64, section: usize, nth: u64) -> usize
     let mut opened: u64 = 0;
     let mut k: usize = 0;
     while k < count {
-        let rec = judge::record_at(flow, k * Flow::RECORD);
-        let kind = judge::kind_in(rec);
+        let rec = records::record_at(flow, k * Flow::RECORD);
+        let kind = records::kind_in(rec);
         if is_line(delega, section, nth, at, opened, kind) {
             return k + 1;
         }

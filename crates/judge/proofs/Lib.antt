@@ -1,5 +1,4 @@
 pub mod Records
-mod FieldByField
 pub mod Turn
 mod NumberedTurn
 mod WaysOut

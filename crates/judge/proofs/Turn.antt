@@ -1,23 +1,16 @@
 -- A turn of the judge: the state that it has come to, and what each of its ways out says of the whole flow.
 use Prim.Native.Nat.{ℕ, zero, suc, _+_, _-_, _*_, _/_, _%_, _<_, _≤_}
 use mathlib.Core.Path.{_≡_, refl, sym, ap, _∙_}
-use mathlib.Core.List.{List, [], _∷_, _++_, map, append-assoc, map-append}
+use mathlib.Core.List.{List, _++_, map}
 use native.Mathlib.Omega.{arith}
-use mathlib.Core.Logic.{⊎-elim}
-use types.Run.{OneOf}
-use denote.Enum.Declared.{tagOf}
-use Rattle.text.proofs.Digits.{the-type}
 use native.Mathlib.Nat.{sub-zero, lt-of-lt-of-le, pow-le-pow-right}
 use lib.Dec.{lit<}
-use native.Mathlib.Numerals.{add-one}
 use borrow.Author.Tests.{lt-ltb, le-ltb, eq-eqb, ne-eqb}
 use native.Mathlib.Decide.{decLt}
-use lib.ListN.{length, take, drop, getD, set, replicate, length-map, length-drop, drop-of-length-le, List·getD-append, List·getD-map}
-use lib.Seq.{drop-cons, set-at, take-suc, take-all, length-take-le, getD-append-add}
-use Rattle.text.specs.declared.Digits.{Digits}
-use Rattle.text.specs.declared.Digits.the-variants.{Number, NonDigit, TooLong}
+use lib.ListN.{length, take, drop, getD, replicate, length-map, length-drop, List·getD-append, List·getD-map}
+use lib.Seq.{length-take-le, getD-append-add}
 use Rattle.text.specs.Characters.{firstBad}
-use Rattle.text.specs.Numbers.{numberFrom, numberOf}
+use Rattle.text.specs.Numbers.{numberFrom}
 use Rattle.text.proofs.Numerals.{number-below}
 use Rattle.layout.specs.declared.Field.{Field}
 use Rattle.layout.specs.declared.Kind.{Kind}
@@ -32,7 +25,7 @@ use Rattle.rules.specs.State.{noSums, startState}
 use Rattle.rules.specs.Bounds.{Small, StateBelow}
 use Rattle.amounts.specs.Outcomes.{first}
 use Rattle.order.specs.Order.{standing}
-use Rattle.rules.specs.Checks.{charFault, orBad, badFields, numberFault, fault}
+use Rattle.rules.specs.Checks.{charFault, badFields, numberFault, fault}
 use Rattle.rules.specs.Values.{valuesIn, valuesOn}
 use Rattle.rules.specs.Step.{lineSums, nextOf, next}
 use Rattle.rules.proofs.Reading.{pairOf, values-read, step-read}
@@ -68,40 +61,6 @@ module _ (name : List ℕ) (st : State) (r : List ℕ) where
 pub next-read : (st : State) (r : List ℕ) (k : Kind) → k ≡ kindIn r → next st r ≡ nextOf st k (pairOf (valuesIn (fieldsOf k) r))
 unfolding next
 next-read st r k e = rw (← e, step-read st k r)
-
-no-number : (d : Digits) → OneOf (1 ∷ 2 ∷ []) (tagOf the-type d) → (f : Field) (o : Outcome) → orBad d f o ≡ Fault 7 (f .start + 1)
-no-number (Number v) t f o = absurd (⊎-elim (λ e. omega arith) (λ e. omega arith) t)
-no-number (NonDigit i) t f o = refl
-no-number TooLong t f o = refl
-
--- a turn over the fields
-module _ (fl : List Field) (r : List ℕ) (j : ℕ) (h : j < length fl) where
-  pub bad-on : (v : ℕ) → numberOf (bytesOf r (getD fl j nowhere)) ≡ Number v → badFields (drop j fl) r ≡ badFields (drop (j + 1) fl) r
-  unfolding badFields
-  bad-on v e = rw (drop-cons fl j nowhere h, e, add-one)
-
-  -- an answer that is no number is the fault 7, at the field's start
-  pub bad-here : (d : Digits) → d ≡ numberOf (bytesOf r (getD fl j nowhere)) → OneOf (1 ∷ 2 ∷ []) (tagOf the-type d) → badFields (drop j fl) r ≡ Fault 7 (getD fl j nowhere .start + 1)
-  unfolding badFields
-  bad-here d e t = rw (drop-cons fl j nowhere h, ← e) (no-number d t (getD fl j nowhere) (badFields (drop (suc j) fl) r))
-
-  -- the values of the first j + 1 fields, in room for n
-  pub read-on : (n : ℕ) → j < n → set (map (valueOf r) (take j fl) ++ replicate (n - j) 0) j (valueOf r (getD fl j nowhere)) ≡ map (valueOf r) (take (j + 1) fl) ++ replicate (n - (j + 1)) 0
-  read-on n g =
-      let v = valueOf r (getD fl j nowhere) in
-      let l : length (map (valueOf r) (take j fl)) ≡ j = length-map (take j fl) (valueOf r) ∙ length-take-le j fl (omega arith) in
-      ap (λ (m : ℕ). set (map (valueOf r) (take j fl) ++ replicate m 0) j v) (let e : n - j ≡ suc (n - (j + 1)) = omega arith in e)
-      ∙ (set-at (map (valueOf r) (take j fl)) 0 (replicate (n - (j + 1)) 0) v j l
-      ∙ (sym (append-assoc (map (valueOf r) (take j fl)) (v ∷ []) (replicate (n - (j + 1)) 0))
-      ∙ ap (λ (t : List ℕ). t ++ replicate (n - (j + 1)) 0) (sym (map-append (valueOf r) (take j fl) (getD fl j nowhere ∷ [])) ∙ ap (map (valueOf r)) (sym (ap (λ (m : ℕ). take m fl) (add-one j) ∙ take-suc fl j nowhere h)))))
-
-pub bad-end : (fl : List Field) (r : List ℕ) (j : ℕ) → length fl ≤ j → badFields (drop j fl) r ≡ Pass
-unfolding badFields
-bad-end fl r j h = rw (drop-of-length-le fl h)
-
-pub read-end : (fl : List Field) (r : List ℕ) (j : ℕ) → length fl ≡ j → map (valueOf r) (take j fl) ++ replicate (4 - j) 0 ≡ valuesIn fl r
-unfolding valuesIn
-read-end fl r j e = rw (take-all j fl (omega arith), e)
 
 -- a value has at most fifteen digits
 value-small : (r : List ℕ) (f : Field) → length r ≡ 120 → Within f → valueOf r f < 1_000_000_000_000_000

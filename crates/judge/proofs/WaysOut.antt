@@ -24,7 +24,8 @@ use Rattle.rules.specs.Checks.{charFault, orBad, badFields, numberFault}
 use Rattle.rules.specs.Values.{valuesIn}
 use Rattle.judge.specs.declared.Judgement.{Judgement}
 use Rattle.judge.specs.Flow.{refusedWith, after, headNameOf}
-use Rattle.judge.specs.Reading.{Clean, ending, valuesRead}
+use Rattle.records.specs.Reading.{Clean, valuesRead}
+use Rattle.judge.specs.Ending.{ending}
 use Rattle.judge.proofs.Turn.{Going, going-end, going-refuses, fault-chars, fault-standing, fault-fields, fault-number}
 
 -- a field that is no number is refused with 7, at a position above 0

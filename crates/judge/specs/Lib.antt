@@ -2,4 +2,4 @@ pub mod Refusal
 pub mod Flow
 pub mod Plain
 pub mod Part
-pub mod Reading
+pub mod Ending

@@ -109,11 +109,11 @@ pub fn survey(flow: &[u8]) -> Surveyed
     let mut negative = false;
     let mut fits = true;
     while st.seen < count {
-        let rec = judge::record_at(flow, st.seen * Flow::RECORD);
-        let kind = judge::kind_in(rec);
+        let rec = records::record_at(flow, st.seen * Flow::RECORD);
+        let kind = records::kind_in(rec);
         negative = negative | is_negative(st, kind);
         fits = fits & stored_fit(st, kind);
-        st = rules::next_state(st, kind, judge::line_sums(rec, kind));
+        st = rules::next_state(st, kind, records::line_sums(rec, kind));
     }
     Surveyed { negative, fits }
 }
@@ -197,8 +197,8 @@ fn settle(rec: &mut [u8], st: State) -> State
     requires { ⌜ Turn (now rec) st × (fitsAll (storedOf st (kindIn (now rec))) ≡ true) ⌝ }
     ensures { λ r. ⌜ (r ≡ next st (now (rec .entry))) × (now (rec .exit) ≡ emit st (now (rec .entry))) ⌝ }
 {
-    let kind = judge::kind_in(&*rec);
-    let after = rules::next_state(st, kind, judge::line_sums(&*rec, kind));
+    let kind = records::kind_in(&*rec);
+    let after = rules::next_state(st, kind, records::line_sums(&*rec, kind));
     fill(&mut *rec, st, kind);
     after
 }

@@ -9,7 +9,7 @@ use Rattle.text.specs.Characters.{firstBad}
 use Rattle.rules.specs.Checks.{charFault}
 use Rattle.judge.specs.Flow.{refusedWith, after}
 use Rattle.judge.specs.declared.Judgement.{Judgement}
-use Rattle.judge.specs.Reading.{ending}
+use Rattle.judge.specs.Ending.{ending}
 use Rattle.rules.specs.declared.State.{State}
 use borrow.Author.Needs.{needs}
 use Rattle.judge.proofs.ended.Statement.{statement}

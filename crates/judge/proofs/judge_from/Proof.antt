@@ -1,9 +1,10 @@
-use Rattle.judge.proofs.Turn.{Going, going-refuses, going-on, fault-values, bad-on, bad-end, read-on, pair-small}
+use Rattle.judge.proofs.Turn.{Going, going-refuses, going-on, fault-values, pair-small}
+use Rattle.records.proofs.FieldByField.{bad-on, bad-end, read-on}
 use Rattle.judge.proofs.NumberedTurn.{behind, behind-length, behind-three, behind-first, behind-amount, behind-within, behind-next, number-then, values-then, amount-none, amount-bad, number-same, number-other, unnumbered-next}
 use Rattle.judge.proofs.WaysOut.{values-good, values-bad, out-ended, out-misplaced, out-bad, out-misread}
 use Rattle.judge.specs.Flow.{refusedWith, after, judgedFrom, restOf, headNameOf}
-use Rattle.judge.specs.Reading.{Clean, valuesRead}
-use Rattle.judge.specs.declared.Values.{Values}
+use Rattle.records.specs.Reading.{Clean, valuesRead}
+use Rattle.records.specs.declared.Values.{Values}
 use Rattle.rules.proofs.Growth.{step-room, deleghe-on}
 use Rattle.rules.specs.Values.{valuesIn, valuesOn}
 use Rattle.rules.specs.Step.{nextDeleghe, nextOf}

@@ -3,8 +3,7 @@ use Prim.Native.Nat.{ℕ, _+_, _-_, _≤_}
 use native.Mathlib.Omega.{arith}
 use mathlib.Core.List.{List}
 use lib.ListN.{length, drop, getD}
-use Rattle.judge.proofs.Turn.{bad-on, bad-here, bad-end}
-use Rattle.judge.proofs.FieldByField.{inside, in-four, field-is, field-within}
+use Rattle.records.proofs.FieldByField.{inside, in-four, field-is, field-within, bad-on, bad-here, bad-end}
 use Rattle.judge.specs.Flow.{refusedWith}
 use Rattle.rules.specs.Checks.{badFields}
 use Rattle.layout.specs.declared.Field.{Field}

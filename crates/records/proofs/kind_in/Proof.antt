@@ -2,8 +2,8 @@ use Rattle.layout.specs.Forms.{formOf}
 use Rattle.layout.specs.declared.Form.{Form}
 use mathlib.Core.Path.{ap}
 use borrow.Author.Needs.{needs}
-use Rattle.judge.proofs.kind_in.Statement.{statement}
-use Rattle.judge.proofs.kind_in.Tie as tie
+use Rattle.records.proofs.kind_in.Statement.{statement}
+use Rattle.records.proofs.kind_in.Tie as tie
 
 form-in-requires : tie.Need-form-in-requires
 form-in-requires c κs = search needs

@@ -1,4 +1,4 @@
--- `judge::lines::amount_in` meets its contract: where no amount is said, the field counts 0.
+-- `records::lines::amount_in` meets its contract: where no amount is said, the field counts 0.
 use Prim.Native.Nat.{_+_, _-_}
 use mathlib.Core.Path.{_≡_, sym, ap, _∙_}
 use native.Mathlib.Omega.{arith}
@@ -7,8 +7,8 @@ use lib.ListN.{take, drop}
 use Rattle.text.specs.Numbers.{numberOf, amountOf}
 use Rattle.layout.specs.Fields.{amountAt, bytesOf}
 use Rattle.words.proofs.FifteenDigits.{amount-number, none-zero}
-use Rattle.judge.proofs.lines.amount_in.Statement.{statement}
-use Rattle.judge.proofs.lines.amount_in.Tie as tie
+use Rattle.records.proofs.lines.amount_in.Statement.{statement}
+use Rattle.records.proofs.lines.amount_in.Tie as tie
 
 any-amount-at-requires : tie.Need-any-amount-at-requires
 any-amount-at-requires c κs = search needs

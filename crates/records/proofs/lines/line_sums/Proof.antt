@@ -1,9 +1,9 @@
--- `judge::lines::line_sums` meets its contract: a record that is no line has no amounts.
+-- `records::lines::line_sums` meets its contract: a record that is no line has no amounts.
 use Rattle.layout.proofs.OtherKinds.{no-line}
 use borrow.Author.Needs.{needs}
 use mathlib.Core.Path.{sym}
-use Rattle.judge.proofs.lines.line_sums.Statement.{statement}
-use Rattle.judge.proofs.lines.line_sums.Tie as tie
+use Rattle.records.proofs.lines.line_sums.Statement.{statement}
+use Rattle.records.proofs.lines.line_sums.Tie as tie
 
 enum-known-k : tie.Need-enum-known-k
 enum-known-k c = search needs

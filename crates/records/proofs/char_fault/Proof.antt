@@ -1,9 +1,9 @@
 use Rattle.text.proofs.Allowed.{bad-within}
 use native.Mathlib.Omega.{arith}
-use mathlib.Core.Path.{_≡_, refl, sym, ap, _∙_}
+use mathlib.Core.Path.{sym, _∙_}
 use borrow.Author.Needs.{needs}
-use Rattle.judge.proofs.char_fault.Statement.{statement}
-use Rattle.judge.proofs.char_fault.Tie as tie
+use Rattle.records.proofs.char_fault.Statement.{statement}
+use Rattle.records.proofs.char_fault.Tie as tie
 
 first-bad-requires : tie.Need-first-bad-requires
 first-bad-requires c κs = search needs

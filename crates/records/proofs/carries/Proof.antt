@@ -2,8 +2,8 @@ use lib.Dec.{eqb}
 use Prim.Native.Nat.{ℕ}
 use mathlib.Core.Path.{ap}
 use borrow.Author.Needs.{needs}
-use Rattle.judge.proofs.carries.Statement.{statement}
-use Rattle.judge.proofs.carries.Tie as tie
+use Rattle.records.proofs.carries.Statement.{statement}
+use Rattle.records.proofs.carries.Tie as tie
 
 add-word-at : tie.Need-add-word-at
 add-word-at c = search needs

@@ -1,8 +1,8 @@
--- `judge::lines::line_amounts` meets its contract: both fields of the section's row lie within the record, whatever the section.
+-- `records::lines::line_amounts` meets its contract: both fields of the section's row lie within the record, whatever the section.
 use borrow.Author.Needs.{needs}
 use Rattle.layout.proofs.Table.{near-rule}
-use Rattle.judge.proofs.lines.line_amounts.Statement.{statement}
-use Rattle.judge.proofs.lines.line_amounts.Tie as tie
+use Rattle.records.proofs.lines.line_amounts.Statement.{statement}
+use Rattle.records.proofs.lines.line_amounts.Tie as tie
 
 section-at-requires : tie.Need-section-at-requires
 section-at-requires c κs = search needs

@@ -1,11 +1,11 @@
 use Rattle.text.proofs.Numerals.{read-is-number}
-use lib.ListN.{length, take, drop, length-take}
-use Prim.Native.Nat.{_-_, _≤_}
+use lib.ListN.{drop, length-take}
+use Prim.Native.Nat.{_-_}
 use native.Mathlib.Omega.{arith}
-use mathlib.Core.Path.{_≡_, refl, sym, ap, _∙_}
+use mathlib.Core.Path.{_∙_}
 use borrow.Author.Needs.{needs}
-use Rattle.judge.proofs.read_field.Statement.{statement}
-use Rattle.judge.proofs.read_field.Tie as tie
+use Rattle.records.proofs.read_field.Statement.{statement}
+use Rattle.records.proofs.read_field.Tie as tie
 
 sub-number : tie.Need-sub-number
 sub-number c = search needs

@@ -1,8 +1,7 @@
 use native.Mathlib.Nat.{add-sub-cancel-left}
-use mathlib.Core.Path.{_≡_, refl, sym, ap, _∙_}
 use borrow.Author.Needs.{needs}
-use Rattle.judge.proofs.record_at.Statement.{statement}
-use Rattle.judge.proofs.record_at.Tie as tie
+use Rattle.records.proofs.record_at.Statement.{statement}
+use Rattle.records.proofs.record_at.Tie as tie
 
 add-result : tie.Need-add-result
 add-result c = search needs

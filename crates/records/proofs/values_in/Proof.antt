@@ -3,18 +3,17 @@ use Prim.Native.Nat.{ℕ, _+_, _-_, _≤_}
 use native.Mathlib.Omega.{arith}
 use mathlib.Core.List.{List, _++_, map}
 use lib.ListN.{length, take, drop, getD, replicate}
-use Rattle.judge.proofs.Turn.{bad-on, bad-here, bad-end, read-on, read-end}
-use Rattle.judge.proofs.FieldByField.{inside, in-four, field-is, field-within}
+use Rattle.records.proofs.FieldByField.{inside, in-four, field-is, field-within, bad-on, bad-here, bad-end, read-on, read-end}
 use Rattle.rules.specs.Checks.{badFields}
 use Rattle.layout.specs.declared.Field.{Field}
 use Rattle.layout.specs.declared.Fields.{Fields}
 use Rattle.layout.specs.declared.Kind.{Kind}
 use Rattle.layout.specs.Fields.{nowhere, listed, fieldsOf, bytesOf, valueOf}
 use Rattle.text.specs.Numbers.{numberOf, amountOf}
-use Rattle.judge.specs.Reading.{valuesRead}
+use Rattle.records.specs.Reading.{valuesRead}
 use borrow.Author.Needs.{needs}
-use Rattle.judge.proofs.values_in.Statement.{statement}
-use Rattle.judge.proofs.values_in.Tie as tie
+use Rattle.records.proofs.values_in.Statement.{statement}
+use Rattle.records.proofs.values_in.Tie as tie
 
 abbrev Inv-loop : tie.InvT-loop
 Inv-loop rec fields list values₀ f₀ values f =

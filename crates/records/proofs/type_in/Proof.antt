@@ -2,8 +2,8 @@ use mathlib.Core.Path.{sym, _∙_}
 use native.Mathlib.Omega.{arith}
 use Rattle.layout.proofs.Spelled.{type-word}
 use borrow.Author.Needs.{needs}
-use Rattle.judge.proofs.type_in.Statement.{statement}
-use Rattle.judge.proofs.type_in.Tie as tie
+use Rattle.records.proofs.type_in.Statement.{statement}
+use Rattle.records.proofs.type_in.Tie as tie
 
 pair-at-requires : tie.Need-pair-at-requires
 pair-at-requires c κs = search needs

@@ -9,8 +9,8 @@ use lib.Seq.{drop-drop}
 use Rattle.text.specs.Characters.{firstBadFrom, allAllowed}
 use Rattle.text.proofs.Allowed.{allowed-more}
 use borrow.Author.Needs.{needs}
-use Rattle.judge.proofs.clean_records.Statement.{statement}
-use Rattle.judge.proofs.clean_records.Tie as tie
+use Rattle.records.proofs.clean_records.Statement.{statement}
+use Rattle.records.proofs.clean_records.Tie as tie
 
 abbrev Inv-loop : tie.InvT-loop
 Inv-loop flow seen count k₀ block₀ k block =

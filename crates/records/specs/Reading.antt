@@ -1,20 +1,16 @@
--- Serves inner functions. How the judge looks at characters and fields: records up to the first that is not clean, and the values of a record's fields.
-use Prim.Native.Nat.{ℕ, _+_, _-_, _*_, _/_, _<_, _≤_}
+-- Serves inner functions. How characters and fields are looked at: records up to the first that is not clean, and the values of a record's fields.
+use Prim.Native.Nat.{ℕ, _-_, _*_, _/_, _<_, _≤_}
 use mathlib.Core.Path.{_≡_}
-use mathlib.Core.Bool.{true, false, cond}
+use mathlib.Core.Bool.{true, false}
 use mathlib.Core.List.{List}
-use lib.Dec.{eqb}
 use lib.ListN.{length, take, drop, replicate}
-use Rattle.text.specs.Characters.{firstBad, allAllowed}
+use Rattle.text.specs.Characters.{allAllowed}
 use Rattle.layout.specs.declared.Field.{Field}
 use Rattle.amounts.specs.declared.Outcome.{Outcome}
 use Rattle.amounts.specs.declared.Outcome.the-variants.{Pass, Fault}
-use Rattle.rules.specs.declared.State.{State}
-use Rattle.rules.specs.Checks.{charFault, badFields}
+use Rattle.rules.specs.Checks.{badFields}
 use Rattle.rules.specs.Values.{valuesIn}
-use Rattle.judge.specs.declared.Judgement.{Judgement}
-use Rattle.judge.specs.declared.Values.{Values}
-use Rattle.judge.specs.Flow.{refusedWith, closing, after}
+use Rattle.records.specs.declared.Values.{Values}
 
 -- the records behind the first m, up to n, are all characters, and the next one, where there is one, is not
 pub record Clean (s : List ℕ) (m n : ℕ) : Type 0 where
@@ -22,12 +18,6 @@ pub record Clean (s : List ℕ) (m n : ℕ) : Type 0 where
   pub ahead : n ≤ length s / 120
   pub clean : allAllowed (take ((n - m) * 120) (drop (m * 120) s)) ≡ true
   pub spoilt : n < length s / 120 → allAllowed (take 120 (drop (n * 120) s)) ≡ false
-
--- behind the clean records: the closing where no record is left, else what check 3 says of the next one
-abbrev pub ending : List ℕ → State → Judgement
-ending s st =
-    cond (eqb (st .seen) (length s / 120)) (closing st)
-    (after (charFault (firstBad (take 120 (drop (st .seen * 120) s)))) (st .seen) (refusedWith 5 (st .seen + 1) 0))
 
 -- values where check 7 passes, else the position that it tells
 abbrev valuesBy : Outcome → List ℕ → Values
