@@ -1,1 +1,2 @@
 pub mod FieldByField
+pub mod CleanRecords

@@ -26,10 +26,10 @@ use Rattle.words.specs.Words.{word, fifteenOf}
 use Rattle.text.specs.Characters.{firstBad}
 use Rattle.text.specs.declared.Characters.the-variants.{Allowed}
 use Rattle.text.specs.declared.Digits.the-variants.{Number}
-use Rattle.text.proofs.Allowed.{allowed-part}
+use Rattle.records.proofs.CleanRecords.{clean-record}
 use Rattle.words.proofs.FifteenDigits.{amount-number}
 use lib.ListN.{length, take, drop, getD, set, replicate, length-take, length-drop}
-use lib.Seq.{drop-drop, take-all}
+use lib.Seq.{take-all}
 use borrow.Author.Needs.{needs}
 use mathlib.Core.Bool.{Bool, true, false, not, false≢true}
 use borrow.Author.Tests.{eq-eqb, eqb-true}
@@ -97,15 +97,7 @@ whole c =
     rw (c .record-at .ensures) (omega (arith, length-take 120 (drop (st c .seen * 120) (flow c)), length-drop (st c .seen * 120) (flow c)))
 
 fine : (c : AtRec) → firstBad (r c) ≡ Allowed
-fine c =
-    let s = start c .seen in
-    let k = st c .seen in
-    let n = first-of c .clean-records .result in
-    let w = within-clean c in
-    let b = c .before .before .records .inv .1 in
-    let e : s * 120 + (k - s) * 120 ≡ k * 120 = omega arith in
-    let d : drop ((k - s) * 120) (drop (s * 120) (flow c)) ≡ drop (k * 120) (flow c) = drop-drop ((k - s) * 120) (s * 120) (flow c) ∙ ap (λ (i : ℕ). drop i (flow c)) e in
-    rw (c .record-at .ensures, ← d) (allowed-part (drop (s * 120) (flow c)) ((n - s) * 120) ((k - s) * 120) 120 (cleared c .clean) (omega arith))
+fine c = rw (c .record-at .ensures) (clean-record (flow c) (start c .seen) _ (st c .seen) (cleared c) (c .before .before .records .inv .1) (within-clean c))
 
 printed : (c : AtRec) → charFault (firstBad (r c)) ≡ Pass
 printed c = ap charFault (fine c)
