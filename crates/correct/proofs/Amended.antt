@@ -3,13 +3,13 @@ use Prim.Native.Nat.{ℕ, _+_, _-_, _^_, _<_, _≤_}
 use mathlib.Core.Path.{_≡_, sym, ap, ap₂, _∙_}
 use mathlib.Core.List.{List}
 use native.Mathlib.Omega.{arith}
-use lib.ListN.{length, take, drop, getD, length-drop}
-use lib.Seq.{length-take-le}
+use lib.ListN.{length, take, drop, getD}
 use Rattle.text.specs.declared.Characters.the-variants.{Allowed}
 use Rattle.text.specs.declared.Digits.the-variants.{Number}
 use Rattle.text.specs.Characters.{firstBad}
 use Rattle.text.specs.Numbers.{digitsOf, numberOf}
 use Rattle.text.specs.Placing.{putAt}
+use Rattle.text.proofs.Bytes.{part-length}
 use Rattle.text.proofs.Allowed.{allowed-digits}
 use Rattle.text.proofs.Numerals.{number-digits, length-digits, digits-of-number}
 use Rattle.text.proofs.Puts.{length-put, put-here, put-after, put-before, put-same, put-allowed, put-over, puts-commute}
@@ -90,7 +90,7 @@ module _ (s : ℕ) (w : s < 5) (r : List ℕ) (l : length r ≡ 120) where
   digits-held : (c : ℕ) → c + 15 ≤ 120 → numberOf (bytesOf r (amountAt c)) ≡ Number (valueOf r (amountAt c)) → take 15 (drop c r) ≡ digitsOf 15 (valueOf r (amountAt c))
   digits-held c h e =
       let n : c + 15 - c ≡ 15 = omega arith in
-      sym (digits-of-number 15 _ (take 15 (drop c r)) (length-take-le 15 (drop c r) (rw length-drop (omega arith))) (ap (λ (m : ℕ). numberOf (take m (drop c r))) (sym n) ∙ e))
+      sym (digits-of-number 15 _ (take 15 (drop c r)) (part-length 15 c r (omega arith)) (ap (λ (m : ℕ). numberOf (take m (drop c r))) (sym n) ∙ e))
 
   -- A line's own amounts leave every byte.
   pub amended-own : numberOf (bytesOf r (amountAt (sectionAt s .debit))) ≡ Number (valueOf r (amountAt (sectionAt s .debit))) → numberOf (bytesOf r (amountAt (sectionAt s .credit))) ≡ Number (valueOf r (amountAt (sectionAt s .credit))) →

@@ -5,10 +5,11 @@ use mathlib.Core.Bool.{Bool, true, false}
 use mathlib.Core.List.{List}
 use native.Mathlib.Omega.{arith}
 use borrow.Author.Tests.{lt-ltb, le-ltb}
-use lib.ListN.{length, take, drop, replicate, length-drop}
-use lib.Seq.{length-take-le, take-all}
+use lib.ListN.{length, take, drop, replicate}
+use lib.Seq.{take-all}
 use Rattle.text.specs.Numbers.{digitsOf}
 use Rattle.text.specs.Placing.{putAt, partBytes, numberBytes}
+use Rattle.text.proofs.Bytes.{part-length}
 use Rattle.text.proofs.Numerals.{length-digits}
 use Rattle.text.proofs.Puts.{length-put, put-here, put-before, put-same, put-over, put-back}
 use Rattle.text.proofs.Fits.{part-fits, part-written, number-fits, number-written}
@@ -43,7 +44,7 @@ copied bs l h e =
 module _ (f : List ℕ) (d c : ℕ) (room : Room f d c) where
   -- The bytes of an amount lie within the flow.
   old-length : (m : ℕ) → m ≤ c → length (take 15 (drop m f)) ≡ 15
-  old-length m h = length-take-le 15 (drop m f) (let i = room .inside in rw length-drop (omega arith))
+  old-length m h = part-length 15 m f (let i = room .inside in omega arith)
 
   module _ (x y : ℕ) where
     credit-in : c + length (digitsOf 15 y) ≤ length f

@@ -15,7 +15,7 @@ use Rattle.rules.specs.Step.{lineSums, nextOf, next}
 use Rattle.rules.proofs.Growth.{start-below, state-on}
 use Rattle.judge.specs.Flow.{chunks, recordsOf, restOf}
 use Rattle.judge.proofs.Records.{chunks-on}
-use Rattle.judge.proofs.Turn.{sums-small}
+use Rattle.records.proofs.Sizes.{sums-small}
 use Rattle.delega.specs.declared.DelegaAnswer.{DelegaAnswer}
 use Rattle.delega.specs.OneDelega.{noSuchDelega, answered, closesAt, delegaFrom}
 

@@ -4,8 +4,9 @@ use mathlib.Core.Path.{_≡_, refl, ap, _∙_}
 use mathlib.Core.List.{List, [], _∷_}
 use native.Mathlib.Omega.{arith}
 use borrow.Author.Tests.{lt-ltb, le-ltb, eq-eqb, ne-eqb}
-use lib.ListN.{length, take, drop, getD, length-drop, List·getD-eq-default}
-use lib.Seq.{drop-drop, length-take-le}
+use lib.ListN.{length, take, drop, getD, List·getD-eq-default}
+use lib.Seq.{drop-drop}
+use Rattle.text.proofs.Bytes.{part-length}
 use Rattle.judge.specs.Flow.{chunks, recordsOf}
 use Rattle.judge.specs.Part.{recordAt, recordStart}
 
@@ -51,7 +52,7 @@ record-there f (suc i) n h =
 -- and each is whole
 pub record-whole : (f : List ℕ) (k : ℕ) → (k ≡ 0 → ⊥) → k ≤ length f / 120 → length (recordAt f k) ≡ 120
 record-whole f k n h =
-    ap length (record-there f k n h .0) ∙ length-take-le 120 (drop (k * 120 - 120) f) (rw length-drop (omega arith))
+    ap length (record-there f k n h .0) ∙ part-length 120 (k * 120 - 120) f (omega arith)
 
 pub record-number : (f : List ℕ) (k : ℕ) → 0 < k → recordAt f k ≡ getD (recordsOf f) (k - 1) []
 unfolding recordAt

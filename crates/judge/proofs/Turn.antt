@@ -1,35 +1,28 @@
 -- A turn of the judge: the state that it has come to, and what each of its ways out says of the whole flow.
-use Prim.Native.Nat.{ℕ, zero, suc, _+_, _-_, _*_, _/_, _%_, _<_, _≤_}
-use mathlib.Core.Path.{_≡_, refl, sym, ap, _∙_}
-use mathlib.Core.List.{List, _++_, map}
+use Prim.Native.Nat.{ℕ, _+_, _-_, _*_, _/_, _%_, _<_, _≤_}
+use mathlib.Core.Path.{_≡_, sym, ap, _∙_}
+use mathlib.Core.List.{List}
 use native.Mathlib.Omega.{arith}
-use native.Mathlib.Nat.{sub-zero, lt-of-lt-of-le, pow-le-pow-right}
-use lib.Dec.{lit<}
+use native.Mathlib.Nat.{sub-zero}
 use borrow.Author.Tests.{lt-ltb, le-ltb, eq-eqb, ne-eqb}
-use native.Mathlib.Decide.{decLt}
-use lib.ListN.{length, take, drop, getD, replicate, length-map, length-drop, List·getD-append, List·getD-map}
-use lib.Seq.{length-take-le, getD-append-add}
+use lib.ListN.{length, take, drop}
 use Rattle.text.specs.Characters.{firstBad}
-use Rattle.text.specs.Numbers.{numberFrom}
-use Rattle.text.proofs.Numerals.{number-below}
-use Rattle.layout.specs.declared.Field.{Field}
 use Rattle.layout.specs.declared.Kind.{Kind}
-use Rattle.layout.specs.declared.Kind.the-variants.{Head, Taxpayer, Domicile, Line, Balance, Payment, Receipt, Addressee, Tail, Unknown}
 use Rattle.layout.specs.Kinds.{typeIn, kindIn}
-use Rattle.layout.specs.Fields.{Within, nowhere, fieldsOf, bytesOf, valueOf, delegaNumber}
-use Rattle.layout.proofs.Within.{fields-within}
+use Rattle.layout.specs.Fields.{fieldsOf, valueOf, delegaNumber}
 use Rattle.amounts.specs.declared.Outcome.{Outcome}
 use Rattle.amounts.specs.declared.Outcome.the-variants.{Pass, Fault}
 use Rattle.rules.specs.declared.State.{State}
-use Rattle.rules.specs.State.{noSums, startState}
-use Rattle.rules.specs.Bounds.{Small, StateBelow}
+use Rattle.rules.specs.State.{startState}
+use Rattle.rules.specs.Bounds.{StateBelow}
 use Rattle.amounts.specs.Outcomes.{first}
 use Rattle.order.specs.Order.{standing}
 use Rattle.rules.specs.Checks.{charFault, badFields, numberFault, fault}
 use Rattle.rules.specs.Values.{valuesIn, valuesOn}
-use Rattle.rules.specs.Step.{lineSums, nextOf, next}
+use Rattle.rules.specs.Step.{nextOf, next}
 use Rattle.rules.proofs.Reading.{pairOf, values-read, step-read}
 use Rattle.rules.proofs.Growth.{start-below, state-on}
+use Rattle.records.proofs.Sizes.{pair-small}
 use Rattle.judge.specs.declared.Judgement.{Judgement}
 use Rattle.judge.specs.Flow.{refusedWith, closing, after, judgedFrom, chunks, restOf, headNameOf, judged, Ready}
 use Rattle.judge.proofs.Records.{chunks-on}
@@ -61,47 +54,6 @@ module _ (name : List ℕ) (st : State) (r : List ℕ) where
 pub next-read : (st : State) (r : List ℕ) (k : Kind) → k ≡ kindIn r → next st r ≡ nextOf st k (pairOf (valuesIn (fieldsOf k) r))
 unfolding next
 next-read st r k e = rw (← e, step-read st k r)
-
--- a value has at most fifteen digits
-value-small : (r : List ℕ) (f : Field) → length r ≡ 120 → Within f → valueOf r f < 1_000_000_000_000_000
-value-small r f l w =
-    let b = number-below (f .end - f .start) (bytesOf r f) (length-take-le (f .end - f .start) (drop (f .start) r) (rw length-drop (omega arith))) in
-    lt-of-lt-of-le b (pow-le-pow-right {n = 10} (lit< tt) {i = f .end - f .start} {j = 15} (omega arith))
-
-zeros : (n i : ℕ) → getD {A = ℕ} (replicate n 0) i 0 ≡ 0
-zeros zero i = refl
-zeros (suc n) zero = refl
-zeros (suc n) (suc i) = zeros n i
-
-each-small : (fl : List Field) (r : List ℕ) → length r ≡ 120 → ((j : ℕ) → j < length fl → Within (getD fl j nowhere)) → (i : ℕ) → getD (map (valueOf r) fl ++ replicate (4 - length fl) 0) i 0 < 1_000_000_000_000_000
-unfolding numberFrom
-each-small fl r l w i = go (decLt i (length fl))
-  where
-    go : Dec (i < length fl) → getD (map (valueOf r) fl ++ replicate (4 - length fl) 0) i 0 < 1_000_000_000_000_000
-    go (yes h) = rw (List·getD-append (map (valueOf r) fl) (replicate (4 - length fl) 0) 0 i (rw length-map h), List·getD-map (valueOf r) fl i nowhere) (value-small r (getD fl i nowhere) l (w i h))
-    go (no h) = rw (let e : i ≡ length (map (valueOf r) fl) + (i - length fl) = omega (arith, length-map fl (valueOf r)) in e, getD-append-add (map (valueOf r) fl) (replicate (4 - length fl) 0) (i - length fl) 0, zeros (4 - length fl) (i - length fl)) (omega arith)
-
-pub pair-small : (k : Kind) (r : List ℕ) → length r ≡ 120 → Small (pairOf (valuesIn (fieldsOf k) r))
-unfolding valuesIn
-pair-small k r l = record { debit-small = each-small (fieldsOf k) r l (fields-within k) 1; credit-small = each-small (fieldsOf k) r l (fields-within k) 2 }
-
--- the amounts of a record that is no line are none, and small
-none-small : Small noSums
-none-small = record { debit-small = omega arith; credit-small = omega arith }
-
--- the amounts of a record have at most fifteen digits
-pub sums-small : (k : Kind) (r : List ℕ) → length r ≡ 120 → Small (lineSums k r)
-unfolding valuesIn
-sums-small Head r l = none-small
-sums-small Taxpayer r l = none-small
-sums-small Domicile r l = none-small
-sums-small (Line s) r l = pair-small (Line s) r l
-sums-small (Balance s) r l = none-small
-sums-small Payment r l = none-small
-sums-small Receipt r l = none-small
-sums-small Addressee r l = none-small
-sums-small Tail r l = none-small
-sums-small Unknown r l = none-small
 
 -- the state st is where the judgement j of the flow's first records has come to: what j is, the rest gives from st
 pub record Going (flow : List ℕ) (j : Judgement) (st : State) : Type 0 where

@@ -12,14 +12,11 @@ ghost use Rattle.judge.specs.Ending.{ending};
 use amounts::Outcome;
 use amounts::Sums;
 use layout::Amount;
-use layout::Field;
 use layout::Flow;
 use layout::Kind;
 use layout::Part;
-use layout::RecordType;
 use order::Stage;
 use rules::State;
-use text::Characters;
 use text::Digits;
 use words::Fifteen;
 

@@ -21,7 +21,8 @@ use Rattle.rebalance.specs.Rebalance.{emit, rebalanced, fitsAll, allFit,
 use Rattle.rebalance.specs.Weigh.{Turn}
 use Rattle.rebalance.proofs.Written.{both-true}
 use Rattle.rebalance.proofs.Emit.{emit-length}
-use Rattle.rebalance.proofs.Turns.{next-below, record-sized, rest-on, rest-end, rest-start}
+use Rattle.rebalance.proofs.Turns.{next-below, rest-on, rest-end, rest-start}
+use Rattle.records.proofs.Sizes.{record-sized}
 
 -- The whole flow rebalanced is what stands before the state and the rest of the flow rebalanced from the state on, and what is written there fits.
 pub record Passing (flow₀ flow : List ℕ) (st : State) : Type 0 where

@@ -4,8 +4,7 @@ use mathlib.Core.Path.{_≡_}
 use mathlib.Core.List.{List, [], _∷_}
 use native.Mathlib.Omega.{arith}
 use native.Mathlib.Nat.{sub-zero}
-use lib.ListN.{length, take, drop, length-drop}
-use lib.Seq.{length-take-le}
+use lib.ListN.{length, take, drop}
 use Rattle.layout.specs.declared.Kind.{Kind}
 use Rattle.layout.specs.Kinds.{kindIn}
 use Rattle.amounts.specs.declared.Sums.{Sums}
@@ -15,7 +14,7 @@ use Rattle.rules.specs.Step.{lineSums, nextOf, next}
 use Rattle.rules.proofs.Growth.{step-room, state-on}
 use Rattle.judge.specs.Flow.{chunks, recordsOf, restOf}
 use Rattle.judge.proofs.Records.{chunks-on}
-use Rattle.judge.proofs.Turn.{sums-small}
+use Rattle.records.proofs.Sizes.{sums-small}
 use Rattle.rebalance.specs.Weigh.{Turn}
 
 -- The state after a record, by its kind and its amounts.
@@ -32,10 +31,6 @@ next-below st r t = state-on st (kindIn r) (lineSums (kindIn r) r) (t .below) (s
 pub turn-room : (r : List ℕ) (st : State) (k : Kind) (x : Sums) → Turn r st → x ≡ lineSums k r →
     (MoneyBelow 1_000_000_000_000_000_000 (st .money) × Small x) × ((st .stage .lines < 1000) × (st .deleghe < 1000) × (st .seen < 1000))
 turn-room r st k x t e = step-room st x (t .below) (t .few) (rw e (sums-small k r (t .sized)))
-
--- A record of a flow is one of 120 bytes.
-pub record-sized : (s : List ℕ) (n : ℕ) → n < length s / 120 → length (take 120 (drop (n * 120) s)) ≡ 120
-record-sized s n h = length-take-le 120 (drop (n * 120) s) (rw length-drop (omega arith))
 
 -- The records that are left are the next one and those behind it.
 pub rest-on : (s : List ℕ) (n : ℕ) → n < length s / 120 → restOf s n ≡ take 120 (drop (n * 120) s) ∷ restOf s (n + 1)

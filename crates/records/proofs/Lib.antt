@@ -1,2 +1,4 @@
+pub mod Sizes
 pub mod FieldByField
+pub mod ValuesRead
 pub mod CleanRecords

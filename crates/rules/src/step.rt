@@ -10,7 +10,6 @@ use crate::State;
 use amounts::Sums;
 use amounts::final_of;
 use layout::Kind;
-use order::Stage;
 
 // How many deleghe have been opened after a record of kind k.
 pub fn next_deleghe(d: u64, k: Kind) -> u64

@@ -35,6 +35,10 @@ at-most-drop m zero l p = p
 at-most-drop m (suc n) [] p = none
 at-most-drop m (suc n) (b ∷ bs) (also h p) = at-most-drop m n bs p
 
+-- A part of a list has none either.
+pub at-most-part : (m n i : ℕ) (l : List ℕ) → AtMost m l → AtMost m (take n (drop i l))
+at-most-part m n i l p = at-most-take m n (drop i l) (at-most-drop m i l p)
+
 -- Two lists, one after the other.
 pub at-most-append : (m : ℕ) (xs ys : List ℕ) → AtMost m xs → AtMost m ys → AtMost m (xs ++ ys)
 at-most-append m [] ys p q = q

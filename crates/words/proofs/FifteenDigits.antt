@@ -7,16 +7,15 @@ use native.Mathlib.Omega.{arith}
 use native.Mathlib.Nat.{pow-suc}
 use lib.ListN.{length, take, drop, getD, length-drop, take-append-drop}
 use lib.Seq.{take-add, take-take, take-suc, drop-drop, drop-at, length-take-le}
-use Rattle.text.specs.declared.Characters.the-variants.{Allowed}
 use Rattle.text.specs.declared.Digits.{Digits}
 use Rattle.text.specs.declared.Digits.the-variants.{Number, NonDigit, TooLong}
 use Rattle.words.specs.declared.Fifteen.the-variants as Said
-use Rattle.text.specs.Characters.{firstBad}
 use Rattle.text.specs.Numbers.{digit, numberFrom, numberOf, amountOf, digitsOf}
 use Rattle.words.specs.Words.{wordBy, word, fifteenOf, AtMost, Spelt, Halves}
+use Rattle.text.proofs.Bytes.{part-length}
 use Rattle.text.proofs.Allowed.{allowed-digits}
 use Rattle.text.proofs.Numerals.{number-below}
-use Rattle.words.proofs.Fields.{allowed-at-most, at-most-take, at-most-drop, at-most-append, word-inj}
+use Rattle.words.proofs.Fields.{allowed-at-most, at-most-take, at-most-drop, at-most-part, at-most-append, word-inj}
 use Rattle.words.proofs.AllDigits.{AllDigits, values, values-length, horner, digits-say, say-digits, say-none}
 use Rattle.words.proofs.AllDigits.AllDigits.{no-more, one-more}
 use Rattle.words.proofs.TopBits.{topsOf, tops-clear, tops-set}
@@ -64,6 +63,13 @@ digits-back (x ∷ xs) ys (one-more h j p) = digits-back xs ys p
 digits-both : (xs ys : List ℕ) → AllDigits xs → AllDigits ys → AllDigits (xs ++ ys)
 digits-both [] ys p q = q
 digits-both (x ∷ xs) ys (one-more h j p) q = one-more h j (digits-both xs ys p q)
+
+-- Where the front of a list is not all digits, or what is behind it, the list says no amount.
+none-front : (xs ys : List ℕ) → (AllDigits xs → ⊥) → Said.NonDigit ≡ fifteenOf (numberOf (xs ++ ys))
+none-front xs ys f = sym (say-none (xs ++ ys) (λ p. f (digits-front xs ys p)))
+
+none-back : (xs ys : List ℕ) → (AllDigits ys → ⊥) → Said.NonDigit ≡ fifteenOf (numberOf (xs ++ ys))
+none-back xs ys f = sym (say-none (xs ++ ys) (λ p. f (digits-back xs ys p)))
 
 -- The digits in front are read first.
 value-append : (xs ys : List ℕ) (a : ℕ) → horner 10 a (values (xs ++ ys)) ≡ horner 10 (horner 10 a (values xs)) (values ys)
@@ -133,13 +139,12 @@ module _ (front back : ℕ) (s : Halves front back) where
       let e : take 7 (s .chars) ≡ take 7 (digitsOf 8 0) = sym (take-take 7 8 (s .chars) (omega arith)) ∙ ap (take 7) (zeros-spelt front front-spelt z) in
       ap (λ (t : List ℕ). fifteenOf (numberOf t)) (behind ∙ ap (λ (t : List ℕ). t ++ drop 7 (s .chars)) e) ∙ amount-shift (drop 7 (s .chars)) 7 0 0
 
-  -- Where the first eight say no amount, the fifteen say none.
+  -- Where the first eight say no amount, or the last eight do not, the fifteen say none.
   pub front-none : Said.NonDigit ≡ fifteenOf (numberOf (take 8 (s .chars))) → Said.NonDigit ≡ fifteenOf (numberOf (s .chars))
-  front-none e = sym (say-none (s .chars) (λ p. none-digits (take 8 (s .chars)) e (digits-front (take 8 (s .chars)) (drop 8 (s .chars)) (rw (take-append-drop 8 (s .chars)) p))))
+  front-none e = rw (take-append-drop 8 (s .chars)) at (none-front (take 8 (s .chars)) (drop 8 (s .chars)) (none-digits (take 8 (s .chars)) e))
 
-  -- Where the last eight say no amount, the fifteen say none.
   pub back-none : Said.NonDigit ≡ fifteenOf (numberOf (drop 7 (s .chars))) → Said.NonDigit ≡ fifteenOf (numberOf (s .chars))
-  back-none e = sym (say-none (s .chars) (λ p. none-digits (drop 7 (s .chars)) e (digits-back (take 7 (s .chars)) (drop 7 (s .chars)) (rw (take-append-drop 7 (s .chars)) p))))
+  back-none e = rw (take-append-drop 7 (s .chars)) at (none-back (take 7 (s .chars)) (drop 7 (s .chars)) (none-digits (drop 7 (s .chars)) e))
 
   -- What the first eight and the last eight say makes what the fifteen say.
   pub both-said : (high low : ℕ) → Said.Amount high ≡ fifteenOf (numberOf (take 8 (s .chars))) → Said.Amount low ≡ fifteenOf (numberOf (drop 7 (s .chars))) → Said.Amount (high / 10 * 100000000 + low) ≡ fifteenOf (numberOf (s .chars))
@@ -150,9 +155,6 @@ module _ (front back : ℕ) (s : Halves front back) where
 
 -- Fifteen bytes of a list.
 module _ (l : List ℕ) (i : ℕ) (h : i + 15 ≤ length l) where
-  pub fifteen-long : length (take 15 (drop i l)) ≡ 15
-  fifteen-long = length-take-le 15 (drop i l) (rw length-drop (omega arith))
-
   -- Their first eight and their last eight.
   pub first-of : take 8 (take 15 (drop i l)) ≡ take 8 (drop i l)
   first-of = take-take 8 15 (drop i l) (omega arith)
@@ -161,36 +163,27 @@ module _ (l : List ℕ) (i : ℕ) (h : i + 15 ≤ length l) where
   cut = take-add 7 8 (drop i l) ∙ ap (λ (t : List ℕ). take 7 (drop i l) ++ take 8 t) (drop-drop 7 i l)
 
   pub last-of : drop 7 (take 15 (drop i l)) ≡ take 8 (drop (i + 7) l)
-  last-of = ap (drop 7) cut ∙ drop-at (take 7 (drop i l)) (take 8 (drop (i + 7) l)) 7 (length-take-le 7 (drop i l) (rw length-drop (omega arith)))
+  last-of = ap (drop 7) cut ∙ drop-at (take 7 (drop i l)) (take 8 (drop (i + 7) l)) 7 (part-length 7 i l (omega arith))
 
   -- By their words, where the top bits are clear.
   abbrev pub halves-at : (front back : ℕ) → front ≡ word (take 8 (drop i l)) → back ≡ word (take 8 (drop (i + 7) l)) → AtMost 127 (take 15 (drop i l)) → Halves front back
-  halves-at front back e f p = record { chars = take 15 (drop i l); fifteen = fifteen-long; fine = p; first = e ∙ ap word (sym first-of); last = f ∙ ap word (sym last-of) }
+  halves-at front back e f p = record { chars = take 15 (drop i l); fifteen = part-length 15 i l h; fine = p; first = e ∙ ap word (sym first-of); last = f ∙ ap word (sym last-of) }
 
-  -- Characters have them clear.
-  pub allowed-fifteen : firstBad l ≡ Allowed → AtMost 127 (take 15 (drop i l))
-  allowed-fifteen ok = at-most-take 127 15 (drop i l) (at-most-drop 127 i l (allowed-at-most l ok))
-
-  -- Bytes of any kind have them clear where both words have.
+  -- Bytes of any kind, by the top bits of both words.
   module _ (p : AtMost 255 l) where
-    eight-long : (k : ℕ) → k + 8 ≤ length l → length (take 8 (drop k l)) ≡ 8
-    eight-long k j = length-take-le 8 (drop k l) (rw length-drop (omega arith))
-
-    bytes : (k : ℕ) → AtMost 255 (take 8 (drop k l))
-    bytes k = at-most-take 255 8 (drop k l) (at-most-drop 255 k l p)
-
+    -- Where all are clear, the fifteen have them clear.
     pub clear-fifteen : topsOf (word (take 8 (drop i l))) ≡ 0 → topsOf (word (take 8 (drop (i + 7) l))) ≡ 0 → AtMost 127 (take 15 (drop i l))
     clear-fifteen e f =
-        let a : AtMost 127 (take 8 (drop i l)) = tops-clear (take 8 (drop i l)) (bytes i) (eight-long i (omega arith)) e in
-        let b : AtMost 127 (take 8 (drop (i + 7) l)) = tops-clear (take 8 (drop (i + 7) l)) (bytes (i + 7)) (eight-long (i + 7) (omega arith)) f in
+        let a : AtMost 127 (take 8 (drop i l)) = tops-clear (take 8 (drop i l)) (at-most-part 255 8 i l p) (part-length 8 i l (omega arith)) e in
+        let b : AtMost 127 (take 8 (drop (i + 7) l)) = tops-clear (take 8 (drop (i + 7) l)) (at-most-part 255 8 (i + 7) l p) (part-length 8 (i + 7) l (omega arith)) f in
         rw cut (at-most-append 127 (take 7 (drop i l)) (take 8 (drop (i + 7) l)) (rw (take-take 7 8 (drop i l) (omega arith)) at (at-most-take 127 7 (take 8 (drop i l)) a)) b)
 
     -- Where one is set, the fifteen say no amount.
     pub set-front : (topsOf (word (take 8 (drop i l))) ≡ 0 → ⊥) → Said.NonDigit ≡ fifteenOf (numberOf (take 15 (drop i l)))
-    set-front f = sym (say-none (take 15 (drop i l)) (λ d. tops-set (take 8 (drop i l)) (bytes i) (eight-long i (omega arith)) f (rw first-of at (digits-front (take 8 (take 15 (drop i l))) (drop 8 (take 15 (drop i l))) (rw (take-append-drop 8 (take 15 (drop i l))) d)))))
+    set-front f = rw (← (take-add 8 7 (drop i l))) at (none-front (take 8 (drop i l)) (take 7 (drop 8 (drop i l))) (tops-set (take 8 (drop i l)) (at-most-part 255 8 i l p) (part-length 8 i l (omega arith)) f))
 
     pub set-back : (topsOf (word (take 8 (drop (i + 7) l))) ≡ 0 → ⊥) → Said.NonDigit ≡ fifteenOf (numberOf (take 15 (drop i l)))
-    set-back f = sym (say-none (take 15 (drop i l)) (λ d. tops-set (take 8 (drop (i + 7) l)) (bytes (i + 7)) (eight-long (i + 7) (omega arith)) f (digits-back (take 7 (drop i l)) (take 8 (drop (i + 7) l)) (rw cut at d))))
+    set-back f = rw (← cut) at (none-back (take 7 (drop i l)) (take 8 (drop (i + 7) l)) (tops-set (take 8 (drop (i + 7) l)) (at-most-part 255 8 (i + 7) l p) (part-length 8 (i + 7) l (omega arith)) f))
 
 -- Eight digits say less than 10 ^ 8.
 pub amount-below : (l : List ℕ) (v : ℕ) → length l ≡ 8 → Said.Amount v ≡ fifteenOf (numberOf l) → v < 100000000

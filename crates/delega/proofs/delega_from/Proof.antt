@@ -1,14 +1,14 @@
 -- `delega::delega_from` meets its contract. The invariant: what the whole search answers, the rest of the records gives from the state; the measure is the records that are left.
 use Rattle.delega.proofs.Search.{Searching, search-start, search-end, search-found, search-on}
-use Rattle.judge.proofs.Turn.{sums-small}
+use Rattle.records.proofs.Sizes.{record-sized, sums-small}
 use Rattle.delega.specs.OneDelega.{delegaFrom}
 use Rattle.judge.specs.Flow.{recordsOf}
 use Rattle.rules.proofs.Growth.{step-room}
 use Rattle.rules.specs.State.{startState}
 use Rattle.rules.specs.declared.State.{State}
-use lib.ListN.{length, drop, length-take, length-drop}
+use lib.ListN.{length}
 use mathlib.Core.List.{List}
-use Prim.Native.Nat.{ℕ, _*_, _/_, _-_, _<_}
+use Prim.Native.Nat.{ℕ, _-_, _<_}
 use borrow.Author.Needs.{needs}
 use native.Mathlib.Omega.{arith}
 use mathlib.Core.Path.{_≡_, sym, _∙_}
@@ -38,9 +38,7 @@ small : (c : AtRec) → st c .seen < 546
 small c = omega (arith, c .before .before .if1 .taken, c .before .before .before .before .before .before .before .pre .short)
 
 whole : (c : AtRec) → length (r c) ≡ 120
-whole c =
-    let m : st c .seen < length (flow c) / 120 = c .before .before .if1 .taken in
-    rw (c .record-at .ensures) (omega (arith, length-take 120 (drop (st c .seen * 120) (flow c)), length-drop (st c .seen * 120) (flow c)))
+whole c = rw (c .record-at .ensures) (record-sized (flow c) (st c .seen) (c .before .before .if1 .taken))
 
 start-requires : tie.Need-start-requires Inv-loop μ-loop
 start-requires c κs = search needs

@@ -1,10 +1,10 @@
 -- `find::line_in` meets its contract. The loop's invariant: what is sought in the whole flow, the records that are left give from the stage, the delega and
 -- the count that the records before them led to. The measure is the number of records left.
 use Rattle.find.proofs.Search.{Searching, search-starts, search-ends, search-finds, search-on}
-use lib.ListN.{length, drop, length-take, length-drop}
-use Prim.Native.Nat.{_-_, _*_}
+use Rattle.records.proofs.Sizes.{record-sized}
+use lib.ListN.{length}
+use Prim.Native.Nat.{_-_}
 use borrow.Author.Needs.{needs}
-use native.Mathlib.Omega.{arith}
 use mathlib.Core.Path.{_≡_, sym, _∙_}
 use Rattle.find.proofs.line_in.Statement.{statement}
 use Rattle.find.proofs.line_in.Tie as tie
@@ -20,10 +20,7 @@ abbrev AtRec : Type 0
 AtRec = tie.After-record-at Inv-loop μ-loop
 
 whole : (c : AtRec) → length (c .record-at .result .now) ≡ 120
-whole c =
-    let k = c .before .before .loop .k in
-    let f = c .before .before .before .before .args .flow .now in
-    rw (c .record-at .ensures) (omega (arith, c .before .loop-test .taken, length-take 120 (drop (k * 120) f), length-drop (k * 120) f))
+whole c = rw (c .record-at .ensures) (record-sized (c .before .before .before .before .args .flow .now) (c .before .before .loop .k) (c .before .loop-test .taken))
 
 loop-holds : tie.Need-loop-holds Inv-loop μ-loop
 loop-holds c = search-starts _ _ _ _

@@ -1,7 +1,9 @@
-use Rattle.judge.proofs.Turn.{Going, going-refuses, going-on, fault-values, pair-small}
+use Rattle.judge.proofs.Turn.{Going, going-refuses, going-on, fault-values}
+use Rattle.records.proofs.Sizes.{record-sized, pair-small}
+use Rattle.records.proofs.ValuesRead.{values-good, values-bad}
 use Rattle.records.proofs.FieldByField.{bad-on, bad-end, read-on}
 use Rattle.judge.proofs.NumberedTurn.{behind, behind-length, behind-three, behind-first, behind-amount, behind-within, behind-next, number-then, values-then, amount-none, amount-bad, number-same, number-other, unnumbered-next}
-use Rattle.judge.proofs.WaysOut.{values-good, values-bad, out-ended, out-misplaced, out-bad, out-misread}
+use Rattle.judge.proofs.WaysOut.{out-ended, out-misplaced, out-bad, out-misread}
 use Rattle.judge.specs.Flow.{refusedWith, after, judgedFrom, restOf, headNameOf}
 use Rattle.records.specs.Reading.{Clean, valuesRead}
 use Rattle.records.specs.declared.Values.{Values}
@@ -28,7 +30,7 @@ use Rattle.text.specs.declared.Characters.the-variants.{Allowed}
 use Rattle.text.specs.declared.Digits.the-variants.{Number}
 use Rattle.records.proofs.CleanRecords.{clean-record}
 use Rattle.words.proofs.FifteenDigits.{amount-number}
-use lib.ListN.{length, take, drop, getD, set, replicate, length-take, length-drop}
+use lib.ListN.{length, take, drop, getD, set, replicate}
 use lib.Seq.{take-all}
 use borrow.Author.Needs.{needs}
 use mathlib.Core.Bool.{Bool, true, false, not, false≢true}
@@ -36,7 +38,7 @@ use borrow.Author.Tests.{eq-eqb, eqb-true}
 use lib.Dec.{eqb}
 use mathlib.Core.List.{List, _∷_, _++_, map}
 use mathlib.Core.Logic.{⊎-elim}
-use Prim.Native.Nat.{ℕ, _+_, _-_, _*_, _/_, _<_, _≤_}
+use Prim.Native.Nat.{ℕ, _+_, _-_, _/_, _<_, _≤_}
 use native.Mathlib.Numerals.{add-one}
 use native.Mathlib.Omega.{arith}
 use mathlib.Core.Path.{_≡_, refl, sym, ap, _∙_}
@@ -92,9 +94,7 @@ small : (c : AtRec) → st c .seen < 546
 small c = omega (arith, more c, first-of c .before .before .before .pre .short)
 
 whole : (c : AtRec) → length (r c) ≡ 120
-whole c =
-    let m : st c .seen < length (flow c) / 120 = more c in
-    rw (c .record-at .ensures) (omega (arith, length-take 120 (drop (st c .seen * 120) (flow c)), length-drop (st c .seen * 120) (flow c)))
+whole c = rw (c .record-at .ensures) (record-sized (flow c) (st c .seen) (more c))
 
 fine : (c : AtRec) → firstBad (r c) ≡ Allowed
 fine c = rw (c .record-at .ensures) (clean-record (flow c) (start c .seen) _ (st c .seen) (cleared c) (c .before .before .records .inv .1) (within-clean c))

@@ -10,7 +10,8 @@ use Rattle.rules.specs.Step.{next}
 use Rattle.rules.specs.declared.State.{State}
 use Rattle.rebalance.specs.Weigh.{Turn}
 use Rattle.rebalance.proofs.Surveys.{Surveying, surveying-start, surveying-on, surveying-end}
-use Rattle.rebalance.proofs.Turns.{next-by, turn-room, record-sized}
+use Rattle.rebalance.proofs.Turns.{next-by, turn-room}
+use Rattle.records.proofs.Sizes.{record-sized}
 use Rattle.rebalance.proofs.survey.Statement.{statement}
 use Rattle.rebalance.proofs.survey.Tie as tie
 

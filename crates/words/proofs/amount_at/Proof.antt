@@ -1,7 +1,8 @@
 -- `words::amount_at` meets its contract: the top bits of characters are clear.
 use borrow.Author.Needs.{needs}
 use Rattle.words.specs.Words.{Halves}
-use Rattle.words.proofs.FifteenDigits.{halves-at, allowed-fifteen}
+use Rattle.words.proofs.Fields.{allowed-at-most, at-most-part}
+use Rattle.words.proofs.FifteenDigits.{halves-at}
 use Rattle.words.proofs.amount_at.Statement.{statement}
 use Rattle.words.proofs.amount_at.Tie as tie
 
@@ -17,7 +18,7 @@ word-at-requires-2 c κs = search needs
 abbrev halves : (c : tie.After-word-at2) → Halves (c .before .word-at .result) (c .word-at2 .result)
 halves c =
     let s = c .before .before .before in
-    halves-at (s .args .part .now) (s .args .at) (s .pre .0) _ _ (c .before .word-at .ensures) (c .word-at2 .ensures) (allowed-fifteen (s .args .part .now) (s .args .at) (s .pre .0) (s .pre .1))
+    halves-at (s .args .part .now) (s .args .at) (s .pre .0) _ _ (c .before .word-at .ensures) (c .word-at2 .ensures) (at-most-part 127 15 (s .args .at) (s .args .part .now) (allowed-at-most (s .args .part .now) (s .pre .1)))
 
 fifteen-in-requires : tie.Need-fifteen-in-requires
 fifteen-in-requires c κs = halves c
