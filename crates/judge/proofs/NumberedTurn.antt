@@ -1,12 +1,12 @@
--- A turn of the judge over a record that carries its delega's number: the amounts behind the number, read one by one, and the number, compared as one word.
-use Prim.Native.Nat.{ℕ, suc, _+_, _-_, _<_, _≤_}
+-- A turn of the judge over a record that carries its delega's number: the amounts behind it, read one by one, and the number, compared as one word.
+use Prim.Native.Nat.{ℕ, suc, _+_, _-_, _<_}
 use mathlib.Core.Path.{_≡_, refl, sym, ap, _∙_}
 use mathlib.Core.Bool.{true, false, false≢true}
 use mathlib.Core.List.{List, _∷_, _++_, map}
 use native.Mathlib.Omega.{arith}
 use borrow.Author.Tests.{ne-eqb}
-use lib.ListN.{length, take, drop, getD, replicate, length-drop}
-use lib.Seq.{drop-cons, getD-drop}
+use lib.ListN.{length, take, drop, getD, replicate}
+use lib.Seq.{drop-cons}
 use Rattle.text.specs.declared.Digits.{Digits}
 use Rattle.text.specs.declared.Digits.the-variants.{Number, NonDigit, TooLong}
 use Rattle.text.specs.declared.Characters.the-variants.{Allowed}
@@ -19,11 +19,10 @@ use Rattle.layout.specs.declared.Field.{Field}
 use Rattle.layout.specs.declared.Kind.{Kind}
 use Rattle.layout.specs.declared.Kind.the-variants.{Head, Taxpayer, Domicile, Line, Balance, Payment, Receipt, Addressee, Tail, Unknown}
 use Rattle.layout.specs.Kinds.{kindIn}
-use Rattle.layout.specs.Fields.{nowhere, amountAt, delegaNumber, fieldsOf, bytesOf, valueOf}
+use Rattle.layout.specs.Fields.{nowhere, delegaNumber, fieldsOf, bytesOf, valueOf}
 use Rattle.layout.specs.Forms.{numbered}
-use Rattle.layout.proofs.Amounts.{number-first, amount-field, next-amount}
+use Rattle.layout.proofs.Amounts.{behind, number-first}
 use Rattle.layout.proofs.Spelled.{zero-behind}
-use Rattle.layout.proofs.Within.{fields-within, fields-four}
 use Rattle.amounts.specs.declared.Outcome.{Outcome}
 use Rattle.amounts.specs.declared.Outcome.the-variants.{Pass, Fault}
 use Rattle.rules.specs.Checks.{orBad, badFields, carried, numberFault}
@@ -62,52 +61,19 @@ unnumbered-next d Tail e = refl
 unnumbered-next d Unknown e = refl
 
 module _ (r : List ℕ) (n : numbered (kindIn r) ≡ true) where
-  -- the amounts behind the number
-  abbrev pub behind : List Field
-  behind = drop 1 (fieldsOf (kindIn r))
-
-  pub behind-length : length behind ≡ length (fieldsOf (kindIn r)) - 1
-  behind-length = length-drop 1 (fieldsOf (kindIn r))
-
-  pub behind-three : length behind ≤ 3
-  behind-three = omega (arith, behind-length, fields-four (kindIn r))
-
-  at-behind : (f : ℕ) → getD behind f nowhere ≡ getD (fieldsOf (kindIn r)) (f + 1) nowhere
-  at-behind f = let e : 1 + f ≡ f + 1 = omega arith in getD-drop 1 (fieldsOf (kindIn r)) f nowhere ∙ ap (λ (i : ℕ). getD (fieldsOf (kindIn r)) i nowhere) e
-
-  pub behind-first : getD behind 0 nowhere .start ≡ getD (fieldsOf (kindIn r)) 1 nowhere .start
-  behind-first = ap (λ (x : Field). x .start) (at-behind 0)
-
-  module _ (f : ℕ) (h : f < length behind) where
-    pub behind-amount : getD behind f nowhere ≡ amountAt (getD behind f nowhere .start)
-    behind-amount = let l = behind-length in rw (at-behind f) (amount-field r n f (omega arith))
-
-    pub behind-within : getD behind f nowhere .start + 15 ≤ 120
-    behind-within =
-        let l = behind-length in
-        let w = fields-within (kindIn r) (f + 1) (omega arith) in
-        let e = ap (λ (x : Field). x .end) (amount-field r n f (omega arith)) in
-        rw (at-behind f) (omega arith)
-
-    pub behind-next : f + 1 < length behind → getD behind (f + 1) nowhere .start ≡ getD behind f nowhere .start + (15 + f)
-    behind-next g =
-        let l = behind-length in
-        let e : f + 1 + 1 ≡ f + 2 = omega arith in
-        rw (at-behind f, at-behind (f + 1), e) (next-amount r n f (omega arith))
-
   -- the number, then the amounts
-  pub number-then : badFields (fieldsOf (kindIn r)) r ≡ orBad (numberOf (bytesOf r delegaNumber)) delegaNumber (badFields behind r)
+  pub number-then : badFields (fieldsOf (kindIn r)) r ≡ orBad (numberOf (bytesOf r delegaNumber)) delegaNumber (badFields (behind (kindIn r)) r)
   unfolding badFields
   number-then = ap (λ (fl : List Field). badFields fl r) (number-first (kindIn r) n)
 
-  pub values-then : valuesIn (fieldsOf (kindIn r)) r ≡ valueOf r delegaNumber ∷ (map (valueOf r) behind ++ replicate (3 - length behind) 0)
+  pub values-then : valuesIn (fieldsOf (kindIn r)) r ≡ valueOf r delegaNumber ∷ (map (valueOf r) (behind (kindIn r)) ++ replicate (3 - length (behind (kindIn r))) 0)
   unfolding valuesIn
-  values-then = ap (λ (fl : List Field). map (valueOf r) fl ++ replicate (4 - length fl) 0) (number-first (kindIn r) n) ∙ ap (λ (m : ℕ). valueOf r delegaNumber ∷ (map (valueOf r) behind ++ replicate m 0)) (let e : 4 - suc (length behind) ≡ 3 - length behind = omega arith in e)
+  values-then = ap (λ (fl : List Field). map (valueOf r) fl ++ replicate (4 - length fl) 0) (number-first (kindIn r) n) ∙ ap (λ (m : ℕ). valueOf r delegaNumber ∷ (map (valueOf r) (behind (kindIn r)) ++ replicate m 0)) (let e : 4 - suc (length (behind (kindIn r))) ≡ 3 - length (behind (kindIn r)) = omega arith in e)
 
   -- an amount that is none: the fields are not all numbers
-  pub amount-bad : {e p : ℕ} → badFields behind r ≡ Fault e p → badFields (fieldsOf (kindIn r)) r ≡ Pass → ⊥
+  pub amount-bad : {e p : ℕ} → badFields (behind (kindIn r)) r ≡ Fault e p → badFields (fieldsOf (kindIn r)) r ≡ Pass → ⊥
   amount-bad b g =
-      let o = or-passes (numberOf (bytesOf r delegaNumber)) delegaNumber (badFields behind r) (sym number-then ∙ g) .0 in
+      let o = or-passes (numberOf (bytesOf r delegaNumber)) delegaNumber (badFields (behind (kindIn r)) r) (sym number-then ∙ g) .0 in
       let z : _≡_ {A = ℕ} 0 1 = cc in
       absurd (omega arith)
 
@@ -120,6 +86,6 @@ module _ (r : List ℕ) (n : numbered (kindIn r) ≡ true) where
     pub number-other : (e : ℕ) → d ≡ nextDeleghe e (kindIn r) → (word (take 8 (drop 2 r)) ≡ word (digitsOf 8 d) → ⊥) → badFields (fieldsOf (kindIn r)) r ≡ Pass → numberFault e (kindIn r) (valueOf r delegaNumber) ≡ Fault 8 4
     unfolding carried
     number-other e ed differs g =
-        let v = or-passes (numberOf (bytesOf r delegaNumber)) delegaNumber (badFields behind r) (sym number-then ∙ g) .1 in
+        let v = or-passes (numberOf (bytesOf r delegaNumber)) delegaNumber (badFields (behind (kindIn r)) r) (sym number-then ∙ g) .1 in
         numbered-fault e (kindIn r) (valueOf r delegaNumber) n
         ∙ rw (ne-eqb (valueOf r delegaNumber) (nextDeleghe e (kindIn r)) (λ q. differs (other-number r 2 d (omega arith) small (zero-behind r n) (v ∙ ap Number (q ∙ sym ed)))))

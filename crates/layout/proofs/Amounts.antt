@@ -1,5 +1,5 @@
 -- The numeric fields of a record of a delega: its number comes first, and behind it amounts, each at a fixed distance from the one before.
-use Prim.Native.Nat.{ℕ, zero, suc, _+_, _-_, _<_}
+use Prim.Native.Nat.{ℕ, zero, suc, _+_, _-_, _<_, _≤_}
 use mathlib.Core.Path.{_≡_, refl, ap}
 use mathlib.Core.Bool.{Bool, true, false, cond, false≢true}
 use mathlib.Core.List.{List, [], _∷_}
@@ -14,17 +14,18 @@ use Rattle.layout.specs.declared.Kind.{Kind}
 use Rattle.layout.specs.declared.Kind.the-variants.{Head, Taxpayer, Domicile, Line, Balance, Payment, Receipt, Addressee, Tail, Unknown}
 use Rattle.layout.specs.Sections.{sections, noSection, sectionAt}
 use Rattle.layout.specs.Kinds.{kindIn}
-use Rattle.layout.specs.Fields.{fieldsOf, nowhere, amountAt, delegaNumber}
+use Rattle.layout.specs.Fields.{Within, fieldsOf, nowhere, amountAt, delegaNumber}
 use Rattle.layout.specs.Forms.{numbered}
 use Rattle.layout.proofs.InTable.{sectionOf, section-within}
+use Rattle.layout.proofs.Within.{fields-within, fields-four}
 use Rattle.layout.proofs.Table.{both, both-left, both-right, at-each}
 
 -- the numeric fields of a kind but the first
-abbrev behind : Kind → List Field
+abbrev pub behind : Kind → List Field
 behind k = drop 1 (fieldsOf k)
 
 -- the number is the first numeric field of a record that carries it
-pub number-first : (k : Kind) → numbered k ≡ true → fieldsOf k ≡ delegaNumber ∷ drop 1 (fieldsOf k)
+pub number-first : (k : Kind) → numbered k ≡ true → fieldsOf k ≡ delegaNumber ∷ behind k
 unfolding numbered
 number-first Head h = absurd (false≢true h)
 number-first Taxpayer h = refl
@@ -97,23 +98,36 @@ next-at i (x ∷ y ∷ fl) t (suc f) h =
     let z : i + 1 + f ≡ i + suc f = omega arith in
     rw (← z) (next-at (i + 1) (y ∷ fl) (on i x y fl t) f (omega arith))
 
+pub behind-length : (k : Kind) → length (behind k) ≡ length (fieldsOf k) - 1
+behind-length k = length-drop 1 (fieldsOf k)
+
+pub behind-three : (k : Kind) → length (behind k) ≤ 3
+behind-three k = omega (arith, behind-length k, fields-four k)
+
+-- the first of them is the second field
+pub behind-first : (k : Kind) → getD (behind k) 0 nowhere ≡ getD (fieldsOf k) 1 nowhere
+behind-first k = getD-drop 1 (fieldsOf k) 0 nowhere
+
 module _ (r : List ℕ) (n : numbered (kindIn r) ≡ true) where
   turn : T (inTurn 0 (behind (kindIn r)))
   turn = in-turn (kindIn r) (section-within r) n
 
-  -- behind the number stand amounts
-  pub amount-field : (f : ℕ) → f < length (fieldsOf (kindIn r)) - 1 → getD (fieldsOf (kindIn r)) (f + 1) nowhere ≡ amountAt (getD (fieldsOf (kindIn r)) (f + 1) nowhere .start)
-  amount-field f h =
-      let z : 1 + f ≡ f + 1 = omega arith in
-      let w = wide-at 0 (behind (kindIn r)) turn f (rw length-drop h) in
-      rw (getD-drop 1 (fieldsOf (kindIn r)) f nowhere, z) at w
+  module _ (f : ℕ) (h : f < length (behind (kindIn r))) where
+    -- behind the number stand amounts
+    pub behind-amount : getD (behind (kindIn r)) f nowhere ≡ amountAt (getD (behind (kindIn r)) f nowhere .start)
+    behind-amount = wide-at 0 (behind (kindIn r)) turn f h
 
-  -- the second amount follows the first at once, and the third comes after a sign
-  pub next-amount : (f : ℕ) → f + 1 < length (fieldsOf (kindIn r)) - 1 →
-      getD (fieldsOf (kindIn r)) (f + 2) nowhere .start ≡ getD (fieldsOf (kindIn r)) (f + 1) nowhere .start + (15 + f)
-  next-amount f h =
-      let z : 1 + f ≡ f + 1 = omega arith in
-      let y : 1 + suc f ≡ f + 2 = omega arith in
-      let x : 0 + f ≡ f = omega arith in
-      let w = next-at 0 (behind (kindIn r)) turn f (rw length-drop (omega arith)) in
-      rw (getD-drop 1 (fieldsOf (kindIn r)) f nowhere, getD-drop 1 (fieldsOf (kindIn r)) (suc f) nowhere, z, y, x) at w
+    -- within the record
+    pub behind-within : getD (behind (kindIn r)) f nowhere .start + 15 ≤ 120
+    behind-within =
+        let l = behind-length (kindIn r) in
+        let w : Within (getD (behind (kindIn r)) f nowhere) = rw (getD-drop 1 (fieldsOf (kindIn r)) f nowhere) (fields-within (kindIn r) (1 + f) (omega arith)) in
+        let e = ap (λ (x : Field). x .end) behind-amount in
+        omega arith
+
+    -- the second follows the first at once, and the third comes after a sign
+    pub behind-next : f + 1 < length (behind (kindIn r)) → getD (behind (kindIn r)) (f + 1) nowhere .start ≡ getD (behind (kindIn r)) f nowhere .start + (15 + f)
+    behind-next g =
+        let z : suc f ≡ f + 1 = omega arith in
+        let x : 0 + f ≡ f = omega arith in
+        rw (z, x) at (next-at 0 (behind (kindIn r)) turn f (omega arith))

@@ -2,7 +2,8 @@ use Rattle.judge.proofs.Turn.{Going, going-refuses, going-on, fault-val
 use Rattle.records.proofs.Sizes.{record-sized, pair-small}
 use Rattle.records.proofs.ValuesRead.{values-good, values-bad}
 use Rattle.records.proofs.FieldByField.{bad-on, bad-end, read-on}
-use Rattle.judge.proofs.NumberedTurn.{behind, behind-length, behind-three, behind-first, behind-amount, behind-within, behind-next, number-then, values-then, amount-none, amount-bad, number-same, number-other, unnumbered-next}
+use Rattle.layout.proofs.Amounts.{behind, behind-length, behind-three, behind-first, behind-amount, behind-within, behind-next}
+use Rattle.judge.proofs.NumberedTurn.{number-then, values-then, amount-none, amount-bad, number-same, number-other, unnumbered-next}
 use Rattle.judge.proofs.WaysOut.{out-ended, out-misplaced, out-bad, out-misread}
 use Rattle.judge.specs.Flow.{refusedWith, after, judgedFrom, restOf, headNameOf}
 use Rattle.records.specs.Reading.{Clean, valuesRead}
@@ -46,18 +47,18 @@ use Rattle.judge.proofs.judge_from.Statement.{statement}
 use Rattle.judge.proofs.judge_from.Tie as tie
 
 abbrev Inv-loop : tie.InvT-loop
-Inv-loop flow count name clean st number k rec kind values₀ d last at₀ f₀ values at f =
-    (f ≤ length (drop 1 (fieldsOf (kindIn rec)))) × (badFields (drop 1 (fieldsOf (kindIn rec))) rec ≡ badFields (drop f (drop 1 (fieldsOf (kindIn rec)))) rec) × (values ≡ d ∷ (map (valueOf rec) (take f (drop 1 (fieldsOf (kindIn rec)))) ++ replicate (3 - f) 0)) × (f < length (drop 1 (fieldsOf (kindIn rec))) → at ≡ getD (drop 1 (fieldsOf (kindIn rec))) f nowhere .start)
+Inv-loop flow count name clean st own k rec kind values₀ d last at₀ f₀ values at f =
+    (f ≤ length (behind (kindIn rec))) × (badFields (behind (kindIn rec)) rec ≡ badFields (drop f (behind (kindIn rec))) rec) × (values ≡ d ∷ (map (valueOf rec) (take f (behind (kindIn rec))) ++ replicate (3 - f) 0)) × (f < length (behind (kindIn rec)) → at ≡ getD (behind (kindIn rec)) f nowhere .start)
 
 abbrev μ-loop : tie.MeasureT-loop
-μ-loop flow count name clean st number k rec kind values₀ d last at₀ f₀ values at f = last - f
+μ-loop flow count name clean st own k rec kind values₀ d last at₀ f₀ values at f = last - f
 
 abbrev Inv-records : tie.InvT-records
-Inv-records flow count name clean st₀ number₀ st number =
-    Going flow (judgedFrom (headNameOf flow) st₀ (restOf flow (st₀ .seen))) st × (st₀ .seen ≤ st .seen) × (st .seen ≤ clean) × (number ≡ word (digitsOf 8 (st .deleghe)))
+Inv-records flow count name clean st₀ own₀ st own =
+    Going flow (judgedFrom (headNameOf flow) st₀ (restOf flow (st₀ .seen))) st × (st₀ .seen ≤ st .seen) × (st .seen ≤ clean) × (own ≡ word (digitsOf 8 (st .deleghe)))
 
 abbrev μ-records : tie.MeasureT-records
-μ-records flow count name clean st₀ number₀ st number = clean - st .seen
+μ-records flow count name clean st₀ own₀ st own = clean - st .seen
 
 -- the place after `record_at`: the flow, the state before the record, the record, and the judgement that is to be
 abbrev AtRec : Type 0
@@ -171,9 +172,9 @@ next-of c = c .before .before
 abbrev rl : AtLoop → List ℕ
 rl c = r (rec-of (num-of (next-of c)))
 
-last-is : (c : AtLoop) → formed (num-of (next-of c)) .form-in .result .amounts ≡ length (drop 1 (fieldsOf (kindIn (rl c))))
+last-is : (c : AtLoop) → formed (num-of (next-of c)) .form-in .result .amounts ≡ length (behind (kindIn (rl c)))
 unfolding formOf
-last-is c = ap (λ (x : Form). x .amounts) (formed (num-of (next-of c)) .form-in .ensures) ∙ sym (behind-length (rl c) (is-number (next-of c)))
+last-is c = ap (λ (x : Form). x .amounts) (formed (num-of (next-of c)) .form-in .ensures) ∙ sym (behind-length (kindIn (rl c)))
 
 abbrev InLoop : Type 0
 InLoop = tie.In-loop Inv-loop μ-loop Inv-records μ-records
@@ -181,13 +182,13 @@ InLoop = tie.In-loop Inv-loop μ-loop Inv-records μ-records
 abbrev f-of : InLoop → ℕ
 f-of c = c .before .loop .f
 
-ahead : (c : InLoop) → f-of c < length (drop 1 (fieldsOf (kindIn (rl (c .before)))))
+ahead : (c : InLoop) → f-of c < length (behind (kindIn (rl (c .before))))
 ahead c = let l = last-is (c .before) in let t = c .loop-test .taken in omega arith
 
 three : (c : InLoop) → f-of c < 3
-three c = omega (arith, ahead c, behind-three (rl (c .before)) (is-number (next-of (c .before))))
+three c = omega (arith, ahead c, behind-three (kindIn (rl (c .before))))
 
-at-is : (c : InLoop) → c .before .loop .at ≡ getD (drop 1 (fieldsOf (kindIn (rl (c .before))))) (f-of c) nowhere .start
+at-is : (c : InLoop) → c .before .loop .at ≡ getD (behind (kindIn (rl (c .before)))) (f-of c) nowhere .start
 at-is c = c .before .loop .inv .3 (ahead c)
 
 at-within : (c : InLoop) → c .before .loop .at + 15 ≤ 120
@@ -197,10 +198,10 @@ at-within c = let e = at-is c in omega (arith, behind-within (rl (c .before)) (i
 abbrev AtAmount : Type 0
 AtAmount = tie.After-amount-at Inv-loop μ-loop Inv-records μ-records
 
-said : (c : AtAmount) → c .amount-at .result ≡ fifteenOf (numberOf (bytesOf (rl (c .before .before)) (getD (drop 1 (fieldsOf (kindIn (rl (c .before .before))))) (f-of (c .before)) nowhere)))
+said : (c : AtAmount) → c .amount-at .result ≡ fifteenOf (numberOf (bytesOf (rl (c .before .before)) (getD (behind (kindIn (rl (c .before .before)))) (f-of (c .before)) nowhere)))
 said c =
     let l = c .before .before in
-    let x = getD (drop 1 (fieldsOf (kindIn (rl l)))) (f-of (c .before)) nowhere in
+    let x = getD (behind (kindIn (rl l))) (f-of (c .before)) nowhere in
     let w : x .start + 15 - x .start ≡ 15 = omega arith in
     c .amount-at .ensures
     ∙ (ap (λ (i : ℕ). fifteenOf (numberOf (take 15 (drop i (rl l))))) (at-is (c .before))
@@ -211,11 +212,11 @@ said c =
 abbrev Past : Type 0
 Past = tie.After-loop Inv-loop μ-loop Inv-records μ-records
 
-all-read : (c : Past) → length (drop 1 (fieldsOf (kindIn (rl (c .before))))) ≡ c .before .loop .f
+all-read : (c : Past) → length (behind (kindIn (rl (c .before)))) ≡ c .before .loop .f
 all-read c = let i = c .before .loop .inv .0 in let l = last-is (c .before) in let t = c .loop-test .left in omega arith
 
-numbers-behind : (c : Past) → badFields (drop 1 (fieldsOf (kindIn (rl (c .before))))) (rl (c .before)) ≡ Pass
-numbers-behind c = let e = all-read c in c .before .loop .inv .1 ∙ bad-end (drop 1 (fieldsOf (kindIn (rl (c .before))))) (rl (c .before)) (c .before .loop .f) (omega arith)
+numbers-behind : (c : Past) → badFields (behind (kindIn (rl (c .before)))) (rl (c .before)) ≡ Pass
+numbers-behind c = let e = all-read c in c .before .loop .inv .1 ∙ bad-end (behind (kindIn (rl (c .before)))) (rl (c .before)) (c .before .loop .f) (omega arith)
 
 -- the number is compared
 abbrev AtCompared : Type 0
@@ -243,7 +244,7 @@ quick-numbers c = number-then (rl (c .before .before .before)) (is-number (past-
 quick-values : (c : Quick) → c .before .before .before .loop .values ≡ valuesIn (fieldsOf (kindIn (rl (c .before .before .before)))) (rl (c .before .before .before))
 quick-values c =
     let l = c .before .before .before in
-    let fr = drop 1 (fieldsOf (kindIn (rl l))) in
+    let fr = behind (kindIn (rl l)) in
     let e = all-read (c .before .before) in
     l .loop .inv .2
     ∙ (ap (λ (m : ℕ). d-of (next-of l) ∷ (map (valueOf (rl l)) (take m fr) ++ replicate (3 - m) 0)) (sym e)
@@ -371,9 +372,9 @@ number-word-requires-2 c κs = d-small (c .before .before)
 array-write-values : tie.Need-array-write-values Inv-loop μ-loop Inv-records μ-records
 array-write-values c = search needs
 
-at-first : (c : AtWord) → formed (num-of (c .before)) .form-in .result .at ≡ getD (drop 1 (fieldsOf (kindIn (r (rec-of (num-of (c .before))))))) 0 nowhere .start
+at-first : (c : AtWord) → formed (num-of (c .before)) .form-in .result .at ≡ getD (behind (kindIn (r (rec-of (num-of (c .before)))))) 0 nowhere .start
 unfolding formOf
-at-first c = ap (λ (x : Form). x .at) (formed (num-of (c .before)) .form-in .ensures) ∙ sym (behind-first (r (rec-of (num-of (c .before)))) (is-number (c .before)))
+at-first c = ap (λ (x : Form). x .at) (formed (num-of (c .before)) .form-in .ensures) ∙ sym (ap (λ (x : Field). x .start) (behind-first (kindIn (r (rec-of (num-of (c .before)))))))
 
 loop-holds : tie.Need-loop-holds Inv-loop μ-loop Inv-records μ-records
 loop-holds c = (omega arith, refl, refl, λ h. at-first c)
@@ -417,7 +418,7 @@ loop-again c =
     let i = a .before in
     let l = i .before in
     let n = is-number (next-of l) in
-    let fr = drop 1 (fieldsOf (kindIn (rl l))) in
+    let fr = behind (kindIn (rl l)) in
     let v = amount-number _ _ (sym (c .before .v .given .1) ∙ said a) in
     let x = map (valueOf (rl l)) (take (f-of i) fr) ++ replicate (3 - f-of i) 0 in (
       omega (arith, ahead i),
