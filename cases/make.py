@@ -1,4 +1,4 @@
-"""Writes the run cases and the sample flows. Run from anywhere: python3 cases/make.py"""
+"""Writes the run cases, the sample flows and the sample sheets. Run from anywhere: python3 cases/make.py"""
 
 import re
 import sys
@@ -30,7 +30,7 @@ data_dir.mkdir(parents=True, exist_ok=True)
 (data_dir.parent / "stdout").write_text("".join(line + "\n" for line in stdout), encoding="ascii", newline="\n")
 
 (ROOT / "samples").mkdir(exist_ok=True)
-for file, built in samples.SAMPLES.items():
+for file, built in [*samples.SAMPLES.items(), *samples.SHEETS.items()]:
     (ROOT / "samples" / file).write_bytes(bytes(built))
 
 accepted = sum(expected[0].startswith("ACCEPTED") for _, expected, *_ in CASES)

@@ -1,4 +1,4 @@
-"""Writes the run cases of the other calls: corrections, and the calls that read. Run from anywhere: python3 cases/make_calls.py"""
+"""Writes the run cases of the other calls: corrections, the calls that read, and flows written from sheets. Run from anywhere: python3 cases/make_calls.py"""
 
 import re
 import sys
@@ -7,30 +7,41 @@ from pathlib import Path
 sys.dont_write_bytecode = True
 
 import corrections      # adds its cases to the list
+import sheets, sheet_faults, samples        # these too
 import correction
 import readings
+import sheet
 
 ROOT = Path(__file__).resolve().parent.parent
 
 
 def written(crate, calls):
     """The data and the expected output of a crate, from name, numbers, the parts that follow the header, expected lines and reason."""
+    assert all(len(set(map(len, parts))) == 1 for _, _, parts, _, _ in calls), crate
+    framed(crate, "calls", calls)
+
+
+def framed(crate, file, calls, more=()):
+    """The same where the parts may be of several lengths: the header has that of the first. `more` lines follow in the expected output."""
     names = [name for name, *_ in calls]
     assert len(set(names)) == len(names), sorted(n for n in names if names.count(n) > 1)
     assert all(re.fullmatch(r"[a-z0-9]+(-[a-z0-9]+)*", n) and len(n) <= 40 for n in names), names
     data, stdout = bytearray(), []
     for name, numbers, parts, lines, why in calls:
-        assert why and len(set(map(len, parts))) == 1 and len(numbers) == 5 and all(0 <= n < 2 ** 64 for n in numbers), name
+        assert why and len(numbers) == 5 and all(0 <= n < 2 ** 64 for n in numbers), name
         data += b"%-40s %020d %020d %020d %020d %020d %06d\n" % (name.encode(), *numbers, len(parts[0]))
         data += b"".join(part + b"\n" for part in parts)
         stdout += [name, *lines]
     folder = ROOT / "crates" / crate
     (folder / "data").mkdir(parents=True, exist_ok=True)
-    (folder / "data" / "calls").write_bytes(data)
-    (folder / "stdout").write_text("".join(line + "\n" for line in stdout), encoding="ascii", newline="\n")
+    (folder / "data" / file).write_bytes(data)
+    (folder / "stdout").write_text("".join(line + "\n" for line in [*stdout, *more]), encoding="ascii", newline="\n")
     refused = sum(line.startswith("REFUSED") for *_, lines, _ in calls for line in lines)
-    print("%s: %d calls, %d refused; data/calls %d bytes" % (crate, len(calls), refused, len(data)))
+    print("%s: %d calls, %d refused; data/%s %d bytes" % (crate, len(calls), refused, file, len(data)))
 
 
 written("correct_cases", [(name, numbers, (before, after), lines, why) for name, numbers, before, after, lines, why in correction.CALLS])
 written("reading_cases", [(name, numbers, (flow,), lines, why) for name, numbers, flow, lines, why in readings.CALLS])
+vectors = ROOT / "cases" / "sheet_vectors.answers"
+framed("write_cases", "sheets", [(name, (length, 0, 0, 0, 0), (data, after), lines, why) for name, length, data, after, lines, why in sheet.CASES],
+       vectors.read_text(encoding="ascii").splitlines())

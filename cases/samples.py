@@ -1,8 +1,9 @@
-"""The sample flows, in the columns that 000 gives for each record. All persons, firms and accounts are invented; the check
+"""The sample flows and sheets, in the columns that 000 gives for each record. All persons, firms and accounts are invented; the check
 characters of the tax codes and of the accounts are right."""
 
 from case import case, no, yes
 from flow import delega, flow
+from sheet import refused, sheet, written
 
 COOPERATIVE = {     # a farm cooperative: a firm's tax code has 11 digits, then blanks
     "tax_code": "03417520545     ", "name": "COOPERATIVA AGRICOLA VAL", "name2": "NERINA SOC. COOP.", "sex": " ",
@@ -39,10 +40,10 @@ def ident(kind, element, code, year, office, debit):
     return debit, 0, {13: "##", 15: kind, 16: element, 33: code, 37: year, 71: office, 74: "0" * 11}
 
 
-def regional_tax():
+def regional_tax(build=flow):
     """01's printed whole case: Regioni lines (10000, 0) and (0, 2500)."""
-    return flow(delega(regioni=[regioni("19", "3802", "00052025", 10000, 0), regioni("19", "3796", "00002024", 0, 2500)],
-                       payer=ROASTERY), name="F24-TORREFAZIONE-003", head=ACCOUNTANT)
+    return build(delega(regioni=[regioni("19", "3802", "00052025", 10000, 0), regioni("19", "3796", "00002024", 0, 2500)],
+                        payer=ROASTERY), name="F24-TORREFAZIONE-003", head=ACCOUNTANT)
 
 
 def all_sections():
@@ -66,6 +67,21 @@ def wrong_balance():
     return regional_tax().put(6, 46, "000000000012500")
 
 
+def two_deleghe():
+    """A sheet: a cooperative with three sections, then a roaster's payment with identifying elements."""
+    return sheet(
+        delega(erario=[erario("1001", "00052025", 482316, 0), erario("6099", "00002024", 0, 120050)],
+               inps=[inps("5800", "DM10", "5801234567", "052025", 615400, 0)],
+               imu=[imu("I921", "3918", "2025", 2, 154600, 0), imu("I921", "3914", "2025", 0, 8800, 0)], payer=COOPERATIVE),
+        delega(ident=[ident("A", "WV1ZZZ7HZ8H004217", "6205", "2025", "", 517000)], payer=ROASTERY),
+        name="F24-STUDIO-VERDI-018", head=ACCOUNTANT)
+
+
+def bad_count():
+    """As the sheet of regional_tax, but the count of its Regioni lines is keyed as a digit and a blank."""
+    return regional_tax(sheet).count("regioni", "2 ")
+
+
 SAMPLES = {"regioni.f24": regional_tax(), "all-sections.f24": all_sections(), "wrong-balance.f24": wrong_balance()}
 
 case("sample-regioni", yes(1, 8, 7500, regioni=(10000, 2500)), SAMPLES["regioni.f24"],
@@ -73,3 +89,12 @@ case("sample-regioni", yes(1, 8, 7500, regioni=(10000, 2500)), SAMPLES["regioni.
 case("sample-all-sections", yes(2, 27, 1991543, erario=(518316, 120050), inps=(656675, 0), regioni=(239302, 1500), imu=(163400, 0),
                                 ident=(535400, 0)), SAMPLES["all-sections.f24"], "01, Order: all five sections")
 case("sample-wrong-balance", no(13, 6, 46), SAMPLES["wrong-balance.f24"], "01, Sections: the balance is the difference")
+
+SHEETS = {"regioni.sheet": regional_tax(sheet), "two-deleghe.sheet": two_deleghe(), "bad-count.sheet": bad_count()}
+
+written("sample-regioni", SHEETS["regioni.sheet"], yes(1, 8, 7500, regioni=(10000, 2500)),
+        "02: what is written is the sample flow, samples/regioni.f24")
+assert bytes(SHEETS["regioni.sheet"].flow) == bytes(SAMPLES["regioni.f24"])
+written("sample-two-deleghe", SHEETS["two-deleghe.sheet"], yes(2, 18, 1658066, erario=(482316, 120050), inps=(615400, 0), imu=(163400, 0),
+                                                               ident=(517000, 0)), "02: the five sections in 01's order")
+refused("sample-bad-count", SHEETS["bad-count.sheet"], no(24, 0, 0), "02: 24 when a count isn't digits")

@@ -107,7 +107,7 @@ fn section_of<'a>(rng: &mut Rng, delega: &'a mut DelegaPlan) -> Option<&'a mut S
     }
 }
 
-fn too_many_lines(rng: &mut Rng, delega: &mut DelegaPlan) {
+pub fn too_many_lines(rng: &mut Rng, delega: &mut DelegaPlan) {
     if let Some(section) = section_of(rng, delega) {
         let lines = SECTIONS[section.section].most + if rng.one_in(2) { 0 } else { rng.place(4) } + 1;
         while section.lines.len() < lines {
@@ -117,7 +117,7 @@ fn too_many_lines(rng: &mut Rng, delega: &mut DelegaPlan) {
 }
 
 /// Both amounts zero, or a credit in section 17.
-fn line_rule(rng: &mut Rng, delega: &mut DelegaPlan) {
+pub fn line_rule(rng: &mut Rng, delega: &mut DelegaPlan) {
     if let Some(section) = section_of(rng, delega) {
         let line = rng.place(section.lines.len());
         let credit = 1 + rng.wide(1000);
@@ -193,7 +193,7 @@ fn only(delega: &mut DelegaPlan, balance: u64) {
 }
 
 /// A delega whose credits are above its debits, often by one cent.
-fn negative(rng: &mut Rng, plan: &mut Plan) -> bool {
+pub fn negative(rng: &mut Rng, plan: &mut Plan) -> bool {
     let start = rng.place(plan.deleghe.len());
     let count = plan.deleghe.len();
     for delega in (0..count).map(|k| (start + k) % count) {

@@ -32,6 +32,14 @@ extern "C" {
         answer: *mut u64,
         answer_len: usize,
     ) -> u64;
+    fn f24_write(
+        sheet: *const u8,
+        sheet_len: usize,
+        room: *mut u8,
+        room_len: usize,
+        answer: *mut u64,
+        answer_len: usize,
+    ) -> u64;
 }
 
 /// Makes a call on a flow and lets the library write its answer into the room.
@@ -53,6 +61,14 @@ pub fn call(call: &Call, flow: &mut [u8], room: &mut [u64]) -> u64 {
     }
 }
 
+/// Lets the library write the flow of a sheet into the room, and its answer.
+#[cfg(not(stand_in))]
+pub fn write(sheet: &[u8], room: &mut [u8], answer: &mut [u64]) -> u64 {
+    // SAFETY: the three pointers are to slices of these lengths, lent for the
+    // call alone and apart from one another; the library asks nothing else.
+    unsafe { f24_write(sheet.as_ptr(), sheet.len(), room.as_mut_ptr(), room.len(), answer.as_mut_ptr(), answer.len()) }
+}
+
 /// A build with `--cfg stand_in` links no library: the reference takes its
 /// place, and nothing is compared but the reference with itself.
 #[cfg(stand_in)]
@@ -61,4 +77,9 @@ pub const NAME: &str = "reference in the library's place";
 #[cfg(stand_in)]
 pub fn call(call: &Call, flow: &mut [u8], room: &mut [u64]) -> u64 {
     crate::rival::call(call, flow, room)
+}
+
+#[cfg(stand_in)]
+pub fn write(sheet: &[u8], room: &mut [u8], answer: &mut [u64]) -> u64 {
+    crate::rival::write(sheet, room, answer)
 }

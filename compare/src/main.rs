@@ -16,9 +16,14 @@ mod quick;
 mod report;
 mod rival;
 mod rng;
+mod sheet;
+mod sheet_damage;
+mod sheet_vectors;
+mod sheets;
 mod sound;
 mod trap;
 mod vectors;
+mod writing;
 
 use calls::Call;
 use comparer::{Compared, Comparer, Difference};
@@ -27,25 +32,31 @@ use sound::{Amounts, Pool, Size};
 use std::fs;
 use std::path::{Path, PathBuf};
 use std::process::ExitCode;
+use writing::Writings;
 
 const USAGE: &str = "usage:
-  compare SEED FLOWS CORRECTIONS             compares so many random cases
-  compare again SEED flow|correction INDEX   compares one of these once more
+  compare SEED FLOWS CORRECTIONS [SHEETS]    compares so many random cases
+  compare again SEED KIND INDEX              compares one of these once more; KIND is flow, correction or sheet
   compare frames FILE..                      compares the flows of framed files
   compare files FILE..                       compares files, a flow each
+  compare sheets FILE..                      compares files, a sheet each
   compare seeds SEED COUNT FOLDER            writes small random flows, a file each, for a fuzzer to start from
   compare vectors SEED COUNT FLOWS STDOUT    writes random flows with the reference's answers
+  compare vectors sheets SEED COUNT DATA STDOUT
+                                             writes random sheets with the reference's answers
 The first difference goes to the folder that COMPARE_FOLDER names, or to 'difference'.";
 
 /// Fewest times that each answer must come up in a full run.
 const FEWEST: u64 = 2000;
 const FULL_FLOWS: u64 = 1_000_000;
 const FULL_CORRECTIONS: u64 = 200_000;
+const FULL_SHEETS: u64 = 200_000;
 
 enum Failure {
     Usage,
     Io(String),
     Differs(String, Box<Difference>),
+    SheetDiffers(String, Box<writing::Difference>),
     /// An answer that came up too seldom for the run to say much.
     Seldom,
 }
@@ -66,15 +77,22 @@ fn main() -> ExitCode {
         }
         Err(Failure::Seldom) => ExitCode::from(1),
         Err(Failure::Differs(case, difference)) => {
-            let folder = folder();
             eprintln!("\nDIFFERENCE between the {} and the reference", report::differing(&difference));
-            match report::write(&folder, &case, &difference) {
-                Ok(text) => eprintln!("{text}files: {}", folder.display()),
-                Err(error) => eprintln!("case: {case}\n{}: {error}", folder.display()),
-            }
-            ExitCode::from(1)
+            shown(&case, report::write(&folder(), &case, &difference))
+        }
+        Err(Failure::SheetDiffers(case, difference)) => {
+            eprintln!("\nDIFFERENCE in what is written from a sheet");
+            shown(&case, difference.write(&folder(), &case))
         }
     }
+}
+
+fn shown(case: &str, written: std::io::Result<String>) -> ExitCode {
+    match written {
+        Ok(text) => eprintln!("{text}files: {}", folder().display()),
+        Err(error) => eprintln!("case: {case}\n{}: {error}", folder().display()),
+    }
+    ExitCode::from(1)
 }
 
 fn run(words: &[&str]) -> Result<(), Failure> {
@@ -82,11 +100,19 @@ fn run(words: &[&str]) -> Result<(), Failure> {
         ["again", seed, kind, index] => again(number(seed)?, kind, number(index)?),
         ["frames", ref files @ ..] if !files.is_empty() => compare_frames(files),
         ["files", ref files @ ..] if !files.is_empty() => compare_files(files),
+        ["sheets", ref files @ ..] if !files.is_empty() => sheets::compare_files(files),
         ["seeds", seed, count, folder] => seeds(number(seed)?, number(count)?, Path::new(folder)),
+        ["vectors", "sheets", seed, count, data, stdout] => {
+            sheet_vectors::write(number(seed)?, number(count)?, data, stdout)
+                .map_err(|error| Failure::Io(error.to_string()))
+        }
         ["vectors", seed, count, flows, stdout] => {
             vectors::write(number(seed)?, number(count)?, flows, stdout).map_err(|error| Failure::Io(error.to_string()))
         }
-        [seed, flows, corrections] => compare(number(seed)?, number(flows)?, number(corrections)?),
+        [seed, flows, corrections] => compare(number(seed)?, number(flows)?, number(corrections)?, 0),
+        [seed, flows, corrections, sheets] => {
+            compare(number(seed)?, number(flows)?, number(corrections)?, number(sheets)?)
+        }
         _ => Err(Failure::Usage),
     }
 }
@@ -99,8 +125,13 @@ fn folder() -> PathBuf {
     PathBuf::from(std::env::var_os("COMPARE_FOLDER").unwrap_or_else(|| "difference".into()))
 }
 
-fn compare(seed: u64, flows: u64, corrections: u64) -> Result<(), Failure> {
-    println!("seed {seed}: {flows} flows and {corrections} corrections, the {} with the reference", ffi::NAME);
+fn compare(seed: u64, flows: u64, corrections: u64, sheets: u64) -> Result<(), Failure> {
+    let what = if sheets == 0 {
+        format!("{flows} flows and {corrections} corrections")
+    } else {
+        format!("{flows} flows, {corrections} corrections and {sheets} sheets")
+    };
+    println!("seed {seed}: {what}, the {} with the reference", ffi::NAME);
     trap::set();
     let pool = Pool::new(seed);
     let mut comparer = Comparer::new();
@@ -120,17 +151,30 @@ fn compare(seed: u64, flows: u64, corrections: u64) -> Result<(), Failure> {
         index += 1;
         progress_past(before, comparer.tally.calls(3), corrections, "corrections");
     }
+    let mut writings = Writings::new();
+    for index in 0..sheets {
+        trap::at(trap::SHEET, seed, index);
+        sheets::case(&mut writings, &pool, seed, index)?;
+        progress(index, sheets, "sheets");
+    }
 
     comparer.tally.print();
     shapes.print();
+    if sheets > 0 {
+        writings.tally.print();
+    }
     let judged = (0..=20).map(|way| (comparer.tally.of(0, way), format!("judge {way}"))).min();
     let corrected =
         [0, 9, 14, 21, 22, 23].iter().map(|&way| (comparer.tally.of(3, way), format!("correct {way}"))).min();
     let mut seldom = false;
-    for (least, full) in [(judged, flows >= FULL_FLOWS), (corrected, corrections >= FULL_CORRECTIONS)] {
-        if let Some((times, answer)) = least {
+    let (times, answer) = writings.tally.rarest();
+    let written = Some((times, format!("write {answer}")));
+    for (least, cases, full) in
+        [(judged, flows, FULL_FLOWS), (corrected, corrections, FULL_CORRECTIONS), (written, sheets, FULL_SHEETS)]
+    {
+        if let Some((times, answer)) = least.filter(|_| cases > 0) {
             println!("rarest: {answer}, {times} times");
-            seldom |= full && times < FEWEST;
+            seldom |= cases >= full && times < FEWEST;
         }
     }
     if seldom {
@@ -351,6 +395,7 @@ fn again(seed: u64, kind: &str, index: u64) -> Result<(), Failure> {
             trap::at(trap::CORRECTION, seed, index);
             correction_case(&mut comparer, &pool, (seed, index), u64::MAX, &mut shapes)
         }
+        "sheet" => return sheets::again(&pool, seed, index),
         _ => return Err(Failure::Usage),
     };
     compared.map_err(|difference| differs(seed, kind, index, difference))?;

@@ -47,6 +47,27 @@ pub fn call(call: &Call, flow: &mut [u8], room: &mut [u64]) -> u64 {
     u64::from(number)
 }
 
+/// How many numbers the answer of a writing needs room for.
+pub const WRITE_NEEDS: usize = 2;
+
+/// Writes the flow of a sheet into the room, and the answer.
+pub fn write(sheet: &[u8], room: &mut [u8], answer: &mut [u64]) -> u64 {
+    if answer.len() < WRITE_NEEDS {
+        return NO_ROOM;
+    }
+    match reference::write(sheet, room) {
+        Ok(length) => {
+            answer[0] = length as u64;
+            0
+        }
+        Err(Refusal { number, record, position }) => {
+            answer[0] = record as u64;
+            answer[1] = position as u64;
+            u64::from(number)
+        }
+    }
+}
+
 /// Writes the five sections' sums, debit and credit in turn.
 pub fn put_sums(room: &mut [u64], sums: &[(u64, u64); 5]) {
     for (pair, &(debit, credit)) in room.chunks_exact_mut(2).zip(sums) {

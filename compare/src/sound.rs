@@ -137,7 +137,7 @@ pub fn plan_of(rng: &mut Rng, records: usize, amounts: Amounts) -> Plan {
     finish(rng, deleghe, amounts)
 }
 
-fn finish(rng: &mut Rng, mut deleghe: Vec<DelegaPlan>, amounts: Amounts) -> Plan {
+pub fn finish(rng: &mut Rng, mut deleghe: Vec<DelegaPlan>, amounts: Amounts) -> Plan {
     // What the tail's sum has left. A reserve keeps every section 17 possible.
     let reserve = 28 * MOST_RECORDS as u64;
     let mut left = MOST_AMOUNT - reserve;
@@ -183,12 +183,12 @@ fn filled(rng: &mut Rng, records: usize) -> Vec<DelegaPlan> {
     deleghe
 }
 
-fn empty(section: usize, lines: usize) -> SectionPlan {
+pub fn empty(section: usize, lines: usize) -> SectionPlan {
     SectionPlan { section, lines: vec![(0, 0); lines] }
 }
 
 /// A delega whose lines have no amounts yet.
-fn shape(rng: &mut Rng, few: bool) -> DelegaPlan {
+pub fn shape(rng: &mut Rng, few: bool) -> DelegaPlan {
     let receipts = RECEIPTS[rng.place(3)];
     if rng.one_in(4) {
         let lines = if few {

@@ -5,6 +5,7 @@ use std::sync::atomic::{AtomicU64, Ordering::Relaxed};
 
 pub const FLOW: u64 = 1;
 pub const CORRECTION: u64 = 2;
+pub const SHEET: u64 = 3;
 
 static KIND: AtomicU64 = AtomicU64::new(0);
 static SEED: AtomicU64 = AtomicU64::new(0);
@@ -36,11 +37,15 @@ pub fn at(kind: u64, seed: u64, index: u64) {
 extern "C" fn trapped(number: i32) {
     say(b"\nTRAPPED by signal ");
     say_number(number as u64);
-    say(if KIND.load(Relaxed) == FLOW { b": flow " } else { b": correction " });
+    say(match KIND.load(Relaxed) {
+        FLOW => b": flow ",
+        SHEET => b": sheet ",
+        _ => b": correction ",
+    });
     say_number(INDEX.load(Relaxed));
     say(b" of seed ");
     say_number(SEED.load(Relaxed));
-    say(b" (once more: again SEED flow|correction INDEX)\n");
+    say(b" (once more: again SEED flow|correction|sheet INDEX)\n");
     // SAFETY: ends the program.
     unsafe { _exit(1) }
 }

@@ -62,7 +62,7 @@ pub fn write(seed: u64, count: u64, flows: &str, stdout: &str) -> io::Result<()>
 }
 
 /// What the judging program prints, and the answer's number.
-fn print(out: &mut impl Write, flow: &[u8]) -> io::Result<usize> {
+pub fn print(out: &mut impl Write, flow: &[u8]) -> io::Result<usize> {
     match reference::judge(flow) {
         Ok(summary) => {
             writeln!(out, "ACCEPTED {} {} {}", summary.deleghe, summary.records, summary.total)?;

@@ -96,7 +96,7 @@ impl Judgement {
         }
     }
 
-    fn head(&mut self, record: &Record) -> Result<(), Fault> {
+    pub fn head(&mut self, record: &Record) -> Result<(), Fault> {
         let date = six(record, DATE).ok_or(fault(7, DATE))?;
 
         // "No "/" and no ":" in it"
@@ -111,7 +111,7 @@ impl Judgement {
     }
 
     /// "The first delega is 1, each next one is one more"
-    fn taxpayer(&mut self, record: &Record) -> Result<(), Fault> {
+    pub fn taxpayer(&mut self, record: &Record) -> Result<(), Fault> {
         let number = count(record, DELEGA)?;
         self.deleghe += 1;
         self.open_delega(number)?;
@@ -121,7 +121,7 @@ impl Judgement {
         Ok(())
     }
 
-    fn line(&mut self, index: usize, record: &Record) -> Result<(), Fault> {
+    pub fn line(&mut self, index: usize, record: &Record) -> Result<(), Fault> {
         let section = &SECTIONS[index];
         self.lines += 1;
         ensure(self.lines <= section.most_lines, 6, SUBTYPE)?;
@@ -165,11 +165,16 @@ impl Judgement {
         let stored_sign = record[section.sign_at - 1];
         ensure(stored_sign == sign(debits, credits), 12, section.sign_at)?;
         ensure(balance == debits.abs_diff(credits), 13, section.balance_at)?;
+        self.close_section(index);
+        Ok(())
+    }
 
+    /// The section's balance record has passed.
+    pub fn close_section(&mut self, index: usize) {
+        let (debits, credits) = self.delega[index];
         self.lines = 0;
         self.flow[index].0 += debits;
         self.flow[index].1 += credits;
-        Ok(())
     }
 
     fn payment(&mut self, record: &Record) -> Result<(), Fault> {
@@ -177,11 +182,16 @@ impl Judgement {
         let stored = amount(record, FINAL_BALANCE)?;
 
         self.open_delega(number)?;
-        let due = final_balance(&self.delega).ok_or(fault(14, TYPE))?;
+        let due = self.due()?;
         ensure(stored == due, 15, FINAL_BALANCE)?;
 
         self.total += due;
         Ok(())
+    }
+
+    /// The open delega's final balance: "Zero is allowed, negative is not."
+    pub fn due(&self) -> Result<u64, Fault> {
+        final_balance(&self.delega).ok_or(fault(14, TYPE))
     }
 
     /// "number of deleghe, number of records with head and tail (EF's own
@@ -217,7 +227,7 @@ fn ensure(holds: bool, number: u8, position: usize) -> Result<(), Fault> {
 }
 
 /// Refusal 3: "a byte outside 32 to 126", at the first such byte.
-fn characters(record: &Record) -> Result<(), Fault> {
+pub fn characters(record: &Record) -> Result<(), Fault> {
     let distance = |byte: &u8| byte.wrapping_sub(32);
     // The farthest of all bytes, with no early end: this the compiler turns
     // into vector instructions.
@@ -230,7 +240,7 @@ fn characters(record: &Record) -> Result<(), Fault> {
 
 /// Refusal 4: the step that this record takes if it may stand here, else
 /// position "2 if no record that may stand here has its type, else 11".
-fn next(here: Step, record: &Record) -> Result<Step, Fault> {
+pub fn next(here: Step, record: &Record) -> Result<Step, Fault> {
     use Step::*;
     let kind = [record[TYPE - 1], record[TYPE]];
     let subtype = [record[SUBTYPE - 1], record[SUBTYPE]];

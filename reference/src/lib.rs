@@ -1,5 +1,6 @@
 //! A judge for CBI F24 payment flows, after the rules of document 01, with
-//! the columns of CBI-F24-001. Words in quotation marks are those rules'.
+//! the columns of CBI-F24-001. Words in quotation marks are those rules'. The
+//! writer of flows from working sheets is after document 02.
 //!
 //! Every input is taken, of every length and value. Sums can't overflow: a
 //! flow has at most 546 records with amounts below 10^15.
@@ -8,11 +9,18 @@ mod digits;
 mod judgement;
 mod layout;
 #[cfg(test)]
+mod sheet_tests;
+mod sheets;
+#[cfg(test)]
 mod tests;
 
 use digits::write_fifteen;
 use judgement::{Judgement, Step};
 use layout::*;
+pub use sheets::write;
+// The comparison asks for more of a refusal than the command line.
+#[allow(unused_imports)]
+pub use sheets::write_or_tell;
 use std::fmt;
 
 /// "A refusal is a number, a record counted from 1, and a position."

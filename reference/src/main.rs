@@ -14,10 +14,15 @@ const USAGE: &str = "usage:
   reference delega FILE NUMBER
   reference find FILE DELEGA SUBTYPE PLACE
   reference correct FILE DELEGA SUBTYPE PLACE DEBIT CREDIT [OUT]
-  reference batch FILE";
+  reference write SHEET [OUT]
+  reference batch FILE
+  reference sheets FILE";
 
 /// "reads standard input, up to 65,521 bytes": one more than a flow may have.
 const MOST_READ: u64 = 65_521;
+
+/// The room that is lent for a flow, the longest there is.
+const ROOM: usize = 65_520;
 
 /// Ends with 0 when the answer is printed, a refusal included, else with 2.
 fn main() -> ExitCode {
@@ -60,7 +65,10 @@ fn run(words: &[&str], out: &mut impl Write) -> io::Result<()> {
         ["correct", file, delega, subtype, place, debit, credit, to] => {
             correct(out, file, [delega, subtype, place, debit, credit], to)
         }
+        ["write", sheet] => write(out, sheet, "-"),
+        ["write", sheet, to] => write(out, sheet, to),
         ["batch", file] => batch(out, &read(file, u64::MAX)?),
+        ["sheets", file] => sheets(out, &read(file, u64::MAX)?),
         _ => Err(io::Error::new(io::ErrorKind::InvalidInput, USAGE)),
     }
 }
@@ -81,13 +89,62 @@ fn correct(out: &mut impl Write, file: &str, words: [&str; 5], to: &str) -> io::
     }
 }
 
+/// Writes the flow of a sheet to the file `to`, or a refusal to `out`.
+fn write(out: &mut impl Write, sheet: &str, to: &str) -> io::Result<()> {
+    let mut room = vec![0; ROOM];
+    match f24::write(&read(sheet, u64::MAX)?, &mut room) {
+        Ok(length) if to == "-" => out.write_all(&room[..length]),
+        Ok(length) => fs::write(to, &room[..length]),
+        Err(refusal) => writeln!(out, "{refusal}"),
+    }
+}
+
+fn broken(frames: &[u8]) -> io::Error {
+    let message = format!("broken frame {} bytes before the end", frames.len());
+    io::Error::new(io::ErrorKind::InvalidData, message)
+}
+
+/// Writes the flows of framed sheets: after a line with the name, the length
+/// or the refusal, whether the room is as expected, and the judgement.
+fn sheets(out: &mut impl Write, mut frames: &[u8]) -> io::Result<()> {
+    while !frames.is_empty() {
+        let (name, sheet, expected, rest) = split_sheet(frames).ok_or_else(|| broken(frames))?;
+        let mut room: Vec<u8> = (0..expected.len()).map(|at| 33 + (at % 90) as u8).collect();
+        let answer = f24::write(sheet, &mut room);
+        writeln!(out, "{name}")?;
+        match &answer {
+            Ok(length) => writeln!(out, "WRITTEN {length}")?,
+            Err(refusal) => writeln!(out, "{refusal}")?,
+        }
+        let same = room == expected;
+        writeln!(out, "{}", if same { "SAME" } else { "DIFFERENT" })?;
+        if let Ok(length) = answer {
+            print_judgement(out, f24::judge(&room[..length]))?;
+        }
+        frames = rest;
+    }
+    Ok(())
+}
+
+/// Splits a line of 153 bytes, with the name in 40 characters, the room's
+/// length in 20 digits, four other numbers and the sheet's length in six; the
+/// sheet, LF, the bytes expected in the room, LF; and what comes after.
+fn split_sheet(frames: &[u8]) -> Option<(&str, &[u8], &[u8], &[u8])> {
+    let (header, rest) = (frames.get(..153)?, frames.get(153..)?);
+    let header = std::str::from_utf8(header).ok()?.strip_suffix('\n')?;
+    let room: usize = header.get(41..61)?.parse().ok()?;
+    let length: usize = header.get(146..152)?.parse().ok()?;
+    let sheet = rest.get(..length)?;
+    let rest = rest[length..].strip_prefix(b"\n")?;
+    let expected = rest.get(..room)?;
+    let rest = rest[room..].strip_prefix(b"\n")?;
+    Some((header.get(..40)?.trim_end(), sheet, expected, rest))
+}
+
 /// Judges framed flows, each printed after a line with its name.
 fn batch(out: &mut impl Write, mut frames: &[u8]) -> io::Result<()> {
     while !frames.is_empty() {
-        let (name, flow, rest) = split_frame(frames).ok_or_else(|| {
-            let message = format!("broken frame {} bytes before the end", frames.len());
-            io::Error::new(io::ErrorKind::InvalidData, message)
-        })?;
+        let (name, flow, rest) = split_frame(frames).ok_or_else(|| broken(frames))?;
         out.write_all(name)?;
         out.write_all(b"\n")?;
         print_judgement(out, f24::judge(flow))?;
@@ -222,6 +279,22 @@ mod tests {
         let mut out = Vec::new();
         batch(&mut out, b"empty 0\n\nends 2\n\n\n\n").unwrap();
         assert_eq!(out, b"empty\nREFUSED 2 0 0\nends\nREFUSED 2 0 0\n");
+    }
+
+    #[test]
+    fn framed_sheets_print_answer_and_room() {
+        let frame = |expected: &str| {
+            let numbers = format!("{:020} {:020} {:020} {:020} {:020}", 3, 0, 0, 0, 0);
+            format!("{:<40} {numbers} {:06}\nab\n{expected}\n", "short", 2)
+        };
+        let mut out = Vec::new();
+        sheets(&mut out, frame("!\"#").as_bytes()).unwrap();
+        sheets(&mut out, frame("!\"!").as_bytes()).unwrap();
+        let printed = "short\nREFUSED 24 0 0\nSAME\nshort\nREFUSED 24 0 0\nDIFFERENT\n";
+        assert_eq!(String::from_utf8(out).unwrap(), printed);
+        for length in 1..frame("!\"#").len() {
+            assert!(sheets(&mut Vec::new(), &frame("!\"#").as_bytes()[..length]).is_err());
+        }
     }
 
     #[test]

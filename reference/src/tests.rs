@@ -7,9 +7,9 @@ use super::*;
 // ---------------------------------------------------------------- building
 
 /// Line subtype and the lines' debits and credits.
-type Built<'a> = (u64, &'a [(u64, u64)]);
+pub type Built<'a> = (u64, &'a [(u64, u64)]);
 
-fn put(record: &mut [u8], position: usize, text: &str) {
+pub fn put(record: &mut [u8], position: usize, text: &str) {
     record[position - 1..position - 1 + text.len()].copy_from_slice(text.as_bytes());
 }
 
@@ -23,7 +23,7 @@ fn blank(kind: &str) -> Record {
     record
 }
 
-fn head() -> Record {
+pub fn head() -> Record {
     let mut record = blank("F4");
     put(&mut record, 4, "SENDR03069");
     put(&mut record, 14, "311299");
@@ -33,7 +33,7 @@ fn head() -> Record {
     record
 }
 
-fn tail(deleghe: u64, records: usize, sum: u64) -> Record {
+pub fn tail(deleghe: u64, records: usize, sum: u64) -> Record {
     let mut record = blank("EF");
     put(&mut record, 4, "SENDR03069311299");
     put(&mut record, 20, "SUPPORT-NAME 0000001");
@@ -44,13 +44,13 @@ fn tail(deleghe: u64, records: usize, sum: u64) -> Record {
 }
 
 /// A record 10, 20, 40 or 50, all fields but the number and subtype blank.
-fn numbered(kind: &str, delega: u64, subtype: &str) -> Record {
+pub fn numbered(kind: &str, delega: u64, subtype: &str) -> Record {
     let mut record = blank(kind);
     put(&mut record, 4, &format!("{delega:07}{subtype}"));
     record
 }
 
-fn line(delega: u64, subtype: u64, (debit, credit): (u64, u64)) -> Record {
+pub fn line(delega: u64, subtype: u64, (debit, credit): (u64, u64)) -> Record {
     let (debit_at, credit_at) = match subtype {
         1 => (27, 42),
         3 => (52, 67),
@@ -87,7 +87,7 @@ fn balance(delega: u64, subtype: u64, lines: &[(u64, u64)]) -> Record {
     record
 }
 
-fn payment(delega: u64, final_balance: u64) -> Record {
+pub fn payment(delega: u64, final_balance: u64) -> Record {
     let mut record = numbered("50", delega, "01");
     put_amount(&mut record, 36, final_balance);
     record
@@ -123,7 +123,7 @@ fn delega_records(delega: u64, sections: &[Built]) -> (Vec<Record>, u64) {
     (records, due)
 }
 
-fn whole(deleghe: &[&[Built]]) -> Vec<u8> {
+pub fn whole(deleghe: &[&[Built]]) -> Vec<u8> {
     let mut records = vec![head()];
     let mut total = 0;
     for (number, sections) in (1..).zip(deleghe) {
@@ -136,17 +136,17 @@ fn whole(deleghe: &[&[Built]]) -> Vec<u8> {
 }
 
 /// The flow of one delega with one section.
-fn one(subtype: u64, lines: &[(u64, u64)]) -> Vec<u8> {
+pub fn one(subtype: u64, lines: &[(u64, u64)]) -> Vec<u8> {
     whole(&[&[(subtype, lines)]])
 }
 
 /// The flow with `text` at a position of a record.
-fn with(mut flow: Vec<u8>, record: usize, position: usize, text: &str) -> Vec<u8> {
+pub fn with(mut flow: Vec<u8>, record: usize, position: usize, text: &str) -> Vec<u8> {
     put(&mut flow, (record - 1) * 120 + position, text);
     flow
 }
 
-fn refused(number: u8, record: usize, position: usize) -> Refusal {
+pub fn refused(number: u8, record: usize, position: usize) -> Refusal {
     Refusal {
         number,
         record,

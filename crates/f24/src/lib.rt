@@ -1,15 +1,18 @@
-// The linkable library: a flow judged, one delega, one line, and a correction, with the answer in a room of numbers that the caller lends.
+// The linkable library: a flow judged, one delega, one line, a correction, and a flow written from a sheet, with the answer in a room of numbers that the caller
+// lends.
 // Each function returns 0, the number of a refusal, or 100 where the room is too short; the numbers behind those it writes stay as they came.
 ghost use mathlib.Core.Path.{_≡_};
 ghost use Prim.Native.Nat.{_≤_};
 ghost use lib.ListN.{length};
 ghost use Rattle.f24.specs.Linked.{overlay, summaryNumbers, delegaNumbers, refusalNumbers};
 ghost use Rattle.f24.specs.Linked.{judgeCode, judgeRoom, delegaCode, delegaRoom, findCode, findRoom, correctCode, correctRoom, correctFlow};
+ghost use Rattle.f24.specs.Linked.{writeCode, writeFlow, writeRoom};
 use amounts::Sums;
 use correct::Correction;
 use find::Found;
 use judge::Summary;
 use judge::Verdict;
+use write::Writing;
 
 // What is returned where the room for the answer is too short.
 const NO_ROOM: u64 = 100;
@@ -22,6 +25,8 @@ const DELEGA_ROOM: usize = 11;
 const FIND_ROOM: usize = 2;
 
 const CORRECT_ROOM: usize = 2;
+
+const WRITE_ROOM: usize = 2;
 
 // Writes numbers at the start of the room.
 fn put(room: &mut [u64], numbers: &[u64])
@@ -175,6 +180,29 @@ pub extern "C" fn f24_correct(
     match correct::correct(&mut *flow, delega, subtype, nth, debit, credit) {
         Correction::Made => 0,
         Correction::Refused(number, at, position) => {
+            put_refusal(&mut *answer, at, position);
+            number
+        }
+    }
+}
+
+// Writes the flow of a working sheet into the room that the caller lends. The answer is its length.
+#[no_mangle]
+pub extern "C" fn f24_write(sheet: &[u8], room: &mut [u8], answer: &mut [u64]) -> u64
+    ensures { λ r. ⌜ (r ≡ writeCode (now (sheet .entry)) (now (room .entry)) (now (answer .entry)))
+        × (now (room .exit) ≡ writeFlow (now (sheet .entry)) (now (room .entry)) (now (answer .entry)))
+        × (now (answer .exit) ≡ writeRoom (now (sheet .entry)) (now (room .entry)) (now (answer .entry))) ⌝ }
+{
+    if answer.len() < WRITE_ROOM {
+        return NO_ROOM;
+    }
+    match write::write(sheet, &mut *room) {
+        Writing::Written(length) => {
+            let numbers = [length as u64];
+            put(&mut *answer, &numbers);
+            0
+        }
+        Writing::Refused(number, at, position) => {
             put_refusal(&mut *answer, at, position);
             number
         }

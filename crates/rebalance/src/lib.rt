@@ -171,7 +171,7 @@ fn fill_tail(rec: &mut [u8], st: State)
 }
 
 // The stored fields of a record of kind k, after the records that led to a state.
-fn fill(rec: &mut [u8], st: State, k: Kind)
+pub fn fill(rec: &mut [u8], st: State, k: Kind)
     requires { ⌜ (length (now rec) ≡ 120) × (st .seen < 1000) × (fitsAll (storedOf st k) ≡ true) ⌝ }
     ensures { λ _. ⌜ now (rec .exit) ≡ putAll (storedOf st k) (now (rec .entry)) ⌝ }
 {

@@ -23,7 +23,7 @@ use layout::Part;
 use layout::Position;
 
 // Check 8, of a record that carries n after d records 10.
-fn number_fault(d: u64, k: Kind, n: u64) -> Outcome
+pub fn number_fault(d: u64, k: Kind, n: u64) -> Outcome
     requires { ⌜ d < 1000 ⌝ }
     ensures { λ r. ⌜ r ≡ numberFault d k n ⌝ }
 {
@@ -154,7 +154,8 @@ pub fn section_sums(st: State, s: usize) -> Sums
     }
 }
 
-fn head_record(rec: &[u8], date: u64) -> Outcome
+// Checks 16 and 17, of the head whose date has been read.
+pub fn head_record(rec: &[u8], date: u64) -> Outcome
     requires { ⌜ length (now rec) ≡ 120 ⌝ }
     ensures { λ r. ⌜ r ≡ headOn (bytesOf (now (rec .entry)) supportName) date ⌝ }
 {

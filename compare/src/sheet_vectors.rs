@@ -1,0 +1,98 @@
+//! Some hundred generated sheets with the reference's answers, as the data and
+//! the expected output of a run program.
+
+use crate::columns::MOST_BYTES;
+use crate::rng::Rng;
+use crate::sheet::Size;
+use crate::sheet_damage::{self, Case};
+use crate::sound::{self, Pool};
+use crate::vectors;
+use crate::writing::{way, WAYS};
+use std::fs;
+use std::io::{self, Write};
+
+/// No more bytes than this in all.
+const MOST_WRITTEN: usize = 3_000_000;
+/// Large ones are dear: so many with a room in which 1 can show, and so many
+/// others of more than this many bytes, and of more than this.
+const MOST_OVER: usize = 4;
+const HUGE: usize = 20_000;
+const MOST_HUGE: usize = 1;
+const LARGE: usize = 3000;
+const MOST_LARGE: usize = 8;
+/// No longer ones than this.
+const LONGEST_SHEET: usize = 70_000;
+const LONGEST_ROOM: usize = 66_000;
+
+/// Writes `count` sheets to one file, each with the bytes that its room has
+/// after the call, and the answers to another; prints how often each came up.
+pub fn write(seed: u64, count: u64, data_to: &str, stdout_to: &str) -> io::Result<()> {
+    let pool = Pool::new(seed);
+    let (mut data, mut lines) = (Vec::new(), Vec::new());
+    let mut tally = [0_u64; WAYS.len()];
+    let (mut written, mut over, mut huge, mut large, mut index) = (0, 0, 0, 0, 0);
+    while written < count {
+        let mut rng = Rng::new(seed, 10, index);
+        index += 1;
+        let size = match rng.below(1000) {
+            0..=599 => Size::Deleghe(1),
+            600..=929 => Size::Flow(sound::Size::Least),
+            930..=964 => Size::Flow(sound::Size::Tiny),
+            965..=974 => Size::Flow(sound::Size::Small),
+            975..=977 => Size::Records(546),
+            978..=994 => Size::Records(547),
+            _ => Size::Deleghe(2 * rng.place(2)),
+        };
+        let case = sheet_damage::case_of(&mut rng, &pool, size);
+        match case.sheet.len().max(case.room) {
+            _ if case.sheet.len() > LONGEST_SHEET || case.room > LONGEST_ROOM => continue,
+            _ if case.room > MOST_BYTES && (over == MOST_OVER || case.known != Some(1)) => continue,
+            _ if case.room > MOST_BYTES => over += 1,
+            length if length > HUGE && huge == MOST_HUGE => continue,
+            length if length > HUGE => huge += 1,
+            length if length > LARGE && large == MOST_LARGE => continue,
+            length if length > LARGE => large += 1,
+            _ => (),
+        }
+        written += 1;
+        let name = format!("random-{written:04}");
+        tally[one(&name, &case, &mut data, &mut lines)?] += 1;
+        if data.len() > MOST_WRITTEN {
+            let message = format!("{written} sheets are more than {MOST_WRITTEN} bytes: ask for fewer");
+            return Err(io::Error::new(io::ErrorKind::InvalidInput, message));
+        }
+    }
+    fs::write(data_to, &data)?;
+    fs::write(stdout_to, &lines)?;
+    println!("{written} sheets, {} bytes; {} bytes of answers", data.len(), lines.len());
+    for (way, times) in WAYS.iter().zip(tally) {
+        println!("{way:<16} {times}");
+    }
+    Ok(())
+}
+
+/// Writes a case and its answer, by the reference; gives the answer's place in
+/// the tally. Before the call byte k of the room, counted from 0, is 33 + k
+/// modulo 90.
+fn one(name: &str, case: &Case, data: &mut Vec<u8>, lines: &mut Vec<u8>) -> io::Result<usize> {
+    let mut room: Vec<u8> = (0..case.room).map(|at| 33 + (at % 90) as u8).collect();
+    let answer = reference::write(&case.sheet, &mut room);
+    writeln!(data, "{name:<40} {:020} {:020} {:020} {:020} {:020} {:06}", case.room, 0, 0, 0, 0, case.sheet.len())?;
+    for part in [&case.sheet, &room] {
+        data.write_all(part)?;
+        data.write_all(b"\n")?;
+    }
+    writeln!(lines, "{name}")?;
+    let code = match answer {
+        Ok(length) => {
+            writeln!(lines, "WRITTEN {length}\nSAME")?;
+            vectors::print(lines, &room[..length])?;
+            0
+        }
+        Err(refusal) => {
+            writeln!(lines, "{refusal}\nSAME")?;
+            u64::from(refusal.number)
+        }
+    };
+    Ok(way(&case.sheet, case.room, code).expect("an answer to a sheet"))
+}

@@ -1,0 +1,4 @@
+pub mod KeptFields
+pub mod Judging
+pub mod OneAnswer
+pub mod Mends

@@ -1,0 +1,2 @@
+pub mod Lenient
+pub mod Inner

@@ -1,0 +1,11 @@
+pub mod SlotKinds
+pub mod FilledRecords
+pub mod SaidBySheet
+pub mod ReadsContents
+pub mod EntriesRead
+pub mod SheetLength
+pub mod KindSlots
+pub mod SlotPlaces
+pub mod Written
+pub mod Walks
+pub mod Steps
