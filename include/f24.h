@@ -1,4 +1,4 @@
-/* f24.h: CBI F24 flows, judged and corrected.
+/* f24.h: CBI F24 flows, judged, corrected and written from working sheets.
  *
  * The functions of the static library libf24.a, for C and all that speaks C on x86-64 Linux. docs/LINKING.md says how
  * to build and link it.
@@ -6,21 +6,22 @@
  * A flow is a run of records of 120 characters with no line ends, at most 65,520 bytes. Records and positions count
  * from 1. Amounts are whole cents.
  *
- * Every function takes any bytes of any length as a flow and any number as a number: it asks nothing but that
- *   - flow points to flow_len bytes, and answer, aligned as uint64_t is, to answer_len numbers;
- *   - neither pointer is null, not even where its length is 0;
- *   - the two do not overlap, and nobody else writes to them during the call.
+ * Every function takes any bytes of any length as a flow or a sheet and any number as a number: it asks nothing but that
+ *   - flow, sheet and room point to as many bytes as their lengths say, and answer, aligned as uint64_t is, to
+ *     answer_len numbers;
+ *   - no pointer is null, not even where its length is 0;
+ *   - none of them overlaps another, and nobody else writes to them during the call.
  * Nothing is allocated, kept between calls or printed: calls from several threads do not meet, so long as what they
  * are lent does not.
  *
  * What a function returns:
- *   0             accepted, found or made: see each function for the answer
- *   1 to 23       the number of the refusal, as document 01 lists them. answer[0] is then the record and answer[1] the
- *                 position, both 0 where the refusal has no place; nothing else is written
+ *   0             accepted, found, made or written: see each function for the answer
+ *   1 to 25       the number of the refusal, as docs/REFUSALS.md lists them. answer[0] is then the record and answer[1]
+ *                 the position, both 0 where the refusal has no place; nothing else is written
  *   100           there is room for too few numbers in answer (F24_NO_ROOM): nothing was read, written or corrected
  *
  * Numbers of answer beyond those that are written stay as they were, and so does every byte of a flow that is not
- * corrected.
+ * corrected and every byte of a room that no flow is written to.
  *
  * The sections stand in this order everywhere: Erario (lines 40-01), INPS (40-03), Regioni (40-05), IMU and local
  * taxes (40-07), identifying elements (40-17).
@@ -43,6 +44,7 @@ extern "C" {
 #define F24_DELEGA_ROOM 11
 #define F24_FIND_ROOM 2
 #define F24_CORRECT_ROOM 2
+#define F24_WRITE_ROOM 2
 
 /* Judges a flow. Where it is accepted:
  *   answer[0]           number of deleghe
@@ -85,6 +87,22 @@ uint64_t f24_find(const uint8_t *flow, size_t flow_len, uint64_t delega, uint64_
  */
 uint64_t f24_correct(uint8_t *flow, size_t flow_len, uint64_t delega, uint64_t subtype, uint64_t place, uint64_t debit,
                      uint64_t credit, uint64_t *answer, size_t answer_len);
+
+/* Writes the flow of a working sheet into a room. docs/SHEETS.md says what a sheet is. Where that is done:
+ *   answer[0]           the length of the flow in bytes, 120 for each of its records
+ * answer[1] is then left as it was. The flow stands at the start of room, and every byte behind it is as it was. It is
+ * accepted, with the sheet's number of deleghe and the sums of its lines, and carries the sheet's records in order, all
+ * but the columns that are filled: the numbers of deleghe, the final balances, and the name, counts and sum of EF. A
+ * room of 65,520 bytes is long enough for every flow.
+ *
+ * It tries 24 (the bytes are no sheet), 25 (room is too short for the flow), 1 (more than 546 records, which shows only
+ * in a room of more than 65,520 bytes), the first fault of the records to be written, counted in the flow, and 23 (a
+ * total, balance or sum would need more than fifteen digits). A refusal leaves every byte of room as it was.
+ *
+ * The call puts the flow together in memory of its own: it needs some 70,000 bytes of stack.
+ */
+uint64_t f24_write(const uint8_t *sheet, size_t sheet_len, uint8_t *room, size_t room_len, uint64_t *answer,
+                   size_t answer_len);
 
 #ifdef __cplusplus
 }

@@ -177,7 +177,7 @@ pub struct Tally {
 }
 
 impl Tally {
-    /// 0 to 23, and 24 for too little room.
+    /// 0 to 23; the last place is for too little room.
     const WAYS: usize = 25;
 
     fn new() -> Self {

@@ -52,7 +52,7 @@ const FULL_FLOWS: u64 = 1_000_000;
 const FULL_CORRECTIONS: u64 = 200_000;
 const FULL_SHEETS: u64 = 200_000;
 
-enum Failure {
+pub enum Failure {
     Usage,
     Io(String),
     Differs(String, Box<Difference>),

@@ -1,4 +1,4 @@
-//! Some hundred generated sheets with the reference's answers, as the data and
+//! Some thousand generated sheets with the reference's answers, as the data and
 //! the expected output of a run program.
 
 use crate::columns::MOST_BYTES;

@@ -57,8 +57,8 @@ impl Writings {
     pub fn compare(&mut self, rng: &mut Rng, case: &Case) -> Result<u64, Box<Difference>> {
         if rng.one_in(16) {
             let numbers = rng.place(WRITE_NEEDS);
-            let unknown = Case { sheet: case.sheet.clone(), room: case.room, known: Some(NO_ROOM), flow: Vec::new() };
-            self.compare_with(rng, &unknown, numbers)?;
+            let short = Case { sheet: case.sheet.clone(), room: case.room, known: Some(NO_ROOM), flow: Vec::new() };
+            self.compare_with(rng, &short, numbers)?;
         }
         let numbers = WRITE_NEEDS + if rng.one_in(2) { 0 } else { rng.place(5) };
         self.compare_with(rng, case, numbers)

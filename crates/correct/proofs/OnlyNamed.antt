@@ -1,37 +1,37 @@
 -- A correction touches only the columns that are named.
-use Prim.Native.Nat.{ℕ, zero, suc, _+_, _-_, _/_, _%_, _≤_, _<_}
+use Prim.Native.Nat.{ℕ, zero, suc, _+_, _-_, _/_, _%_, _<_}
 use mathlib.Core.Path.{_≡_, refl, sym, ap, ap₂, _∙_}
-use mathlib.Core.Bool.{Bool, true, false, cond, true≢false}
+use mathlib.Core.Bool.{Bool, true, false, cond}
 use mathlib.Core.List.{List, [], _∷_, _++_}
-use mathlib.Core.Logic.{_⊎_, inl, inr, ⊎-elim}
+use mathlib.Core.Logic.{inl, inr, ⊎-elim}
 use native.Mathlib.Omega.{arith}
 use native.Mathlib.Decide.{decLt}
-use borrow.Author.Tests.{eqb-true, eqb-false, eq-eqb, ne-eqb, leb-false, ltb-false, le-leb}
-use lib.Dec.{eqb, ltb, leb}
+use borrow.Author.Tests.{eqb-true, eqb-false, eq-eqb, ne-eqb}
+use lib.Dec.{eqb}
 use lib.ListN.{length, getD, List·getD-append}
 use lib.Seq.{getD-append-add}
 use Rattle.text.specs.Numbers.{digitsOf}
 use Rattle.text.specs.Placing.{putAt}
 use Rattle.text.proofs.Numerals.{length-digits}
-use Rattle.text.proofs.Puts.{length-put, put-byte-before, put-byte-after}
-use Rattle.layout.specs.declared.Field.{Field}
+use Rattle.text.proofs.Puts.{length-put}
 use Rattle.layout.specs.declared.Kind.{Kind}
 use Rattle.layout.specs.declared.Kind.the-variants.{Line, Balance, Payment, Tail}
 use Rattle.layout.specs.Sections.{sectionAt}
 use Rattle.layout.specs.Kinds.{kindIn}
 use Rattle.layout.specs.Fields.{amountAt, delegaNumber, finalBalance, tailSum, valueOf}
-use Rattle.amounts.specs.declared.Sums.{Sums}
 use Rattle.rules.specs.declared.State.{State}
 use Rattle.amounts.specs.declared.Outcome.the-variants.{Pass}
 use Rattle.rules.specs.State.{startState}
-use Rattle.rules.specs.Stored.{Stored, sectionSums, storedOf}
+use Rattle.rules.specs.Stored.{sectionSums, storedOf}
 use Rattle.rules.specs.Checks.{carried, numberFault, fault}
 use Rattle.rules.specs.Step.{next}
 use Rattle.judge.specs.Flow.{recordsOf, headNameOf}
 use Rattle.judge.specs.Plain.{NoFault, Whole, stateAfter}
 use Rattle.judge.proofs.Accepted.{accepted-means-no-fault, carried-number}
-use Rattle.rebalance.specs.Rebalance.{startOf, widthOf, putAll, emit, rebalanced, clear, Sized, flat}
+use Rattle.rebalance.specs.Rebalance.{putAll, emit, rebalanced, Sized, flat}
 use Rattle.layout.proofs.InTable.{line-within}
+use Rattle.rebalance.specs.Places.{inColumns, balanceColumns}
+use Rattle.rebalance.proofs.Outside.{outside, put-outside, covers-clear, balance-covers}
 use Rattle.rebalance.proofs.Columns.{Storing, plain, balance, payment, tail, storing}
 use Rattle.rebalance.proofs.Emit.{kept-each, emit-same-stored, emit-plain, emit-outside, fault-kept, emit-own}
 use Rattle.rebalance.proofs.Rebalanced.{sized-rebalanced}
@@ -40,13 +40,12 @@ use Rattle.find.specs.Line.{lineOf}
 use Rattle.correct.specs.declared.Correction.the-variants.{Made}
 use Rattle.correct.specs.Correction.{sectionOf, refreshed, correctionOf, correctedBytes}
 use Rattle.correct.specs.Effect.{withAmounts}
-use Rattle.correct.specs.Touched.{lineColumns, signAndBalance, balanceColumns, storedColumns, inAny, mayTouch}
+use Rattle.correct.specs.Touched.{lineColumns, storedColumns, mayTouch}
 use Rattle.correct.proofs.Amended.{amended, credit-room, debit-room, line-amended}
 use Rattle.correct.proofs.Split.{Split, line-splits, records-replaced}
 use Rattle.correct.proofs.Answered.{Passed}
 use Rattle.correct.proofs.Conditions.{made-passed, made-bytes}
 use Rattle.correct.proofs.StaysAccepted.{accepted-whole, amounts-whole}
-use Rattle.correct.proofs.Rewritten.{row}
 use Rattle.correct.proofs.OtherSums.{Off, blank-at, off-on, off-line}
 
 -- The byte of records at an index is that of a record at a column.
@@ -66,53 +65,12 @@ flat-byte (r ∷ rs) z i = go (decLt i 120) (flat-byte rs (z .1) (i - 120))
         let c : i % 120 ≡ (i - 120) % 120 = omega arith in
         rw (q, c) (ap (λ (j : ℕ). getD (r ++ flat rs) j 0) e ∙ (getD-append-add r (flat rs) (i - 120) 0 ∙ ih))
 
--- An index outside fields lies before or behind each.
-outside : (c : ℕ) (x : Field) (xs : List Field) → inAny c (x ∷ xs) ≡ false → ((c < x .start) ⊎ (x .end ≤ c)) × (inAny c xs ≡ false)
-unfolding inAny
-outside c x xs e = go (leb (x .start) c) (ltb c (x .end)) refl refl e
-  where
-    go : (t u : Bool) → leb (x .start) c ≡ t → ltb c (x .end) ≡ u → cond (cond t u false) true (inAny c xs) ≡ false → ((c < x .start) ⊎ (x .end ≤ c)) × (inAny c xs ≡ false)
-    go true true p q e = absurd (true≢false e)
-    go true false p q e = (inr (ltb-false _ _ q), e)
-    go false u p q e = (inl (leb-false _ _ p), e)
-
--- A byte before or behind a place stays when bytes are put there.
-put-outside : (a : ℕ) (bs r : List ℕ) → a + length bs ≤ length r → (c : ℕ) → (c < a) ⊎ (a + length bs ≤ c) → getD (putAt a bs r) c 0 ≡ getD r c 0
-put-outside a bs r h c o = ⊎-elim (put-byte-before a bs r h c 0) (put-byte-after a bs r h c 0) o
-
--- Fields are the columns of stored ones.
-abbrev Covers : List Field → List Stored → Type 0
-Covers [] [] = Unit {0}
-Covers [] (x ∷ xs) = ⊥
-Covers (f ∷ fs) [] = ⊥
-Covers (f ∷ fs) (x ∷ xs) = (f .start ≡ startOf x) × (f .end ≡ startOf x + widthOf x) × Covers fs xs
-
--- An index outside them is outside the stored ones.
-covers-clear : (c : ℕ) (fs : List Field) (xs : List Stored) → Covers fs xs → inAny c fs ≡ false → clear c 1 xs ≡ true
-unfolding clear
-covers-clear c [] [] v h = refl
-covers-clear c [] (x ∷ xs) v h = absurd v
-covers-clear c (f ∷ fs) [] v h = absurd v
-covers-clear c (f ∷ fs) (x ∷ xs) v h =
-    let o = outside c f fs h in
-    rw (covers-clear c fs xs (v .2) (o .1))
-    (⊎-elim (λ p. rw (le-leb (c + 1) (startOf x) (omega (arith, v .0)))) (λ p. rw (le-leb (startOf x + widthOf x) c (omega (arith, v .1))) (go (leb (c + 1) (startOf x)))) (o .0))
-  where
-    go : (t : Bool) → cond (cond t true true) true false ≡ true
-    go true = refl
-    go false = refl
-
--- Those of a balance record that may be touched are all that it stores.
-balance-covers : (s : ℕ) (x : Sums) (t : Bool) → Covers (cond t (amountAt (sectionAt s .«total_debit») ∷ amountAt (sectionAt s .«total_credit») ∷ signAndBalance s) (signAndBalance s)) (row s x t)
-balance-covers s x true = (refl, omega arith, (refl, omega arith, (refl, refl, (refl, omega arith, tt))))
-balance-covers s x false = (refl, refl, (refl, omega arith, tt))
-
 -- The counts in the tail, as they are written.
 abbrev counted : State → List ℕ → List ℕ
 counted st r = putAt 82 (digitsOf 7 (st .seen + 1)) (putAt 45 (digitsOf 7 (st .deleghe)) r)
 
 -- Outside its sum the tail gets the counts only.
-tail-byte : (st : State) (r : List ℕ) → length r ≡ 120 → kindIn r ≡ Tail → (c : ℕ) → inAny c (tailSum ∷ []) ≡ false → getD (emit st r) c 0 ≡ getD (counted st r) c 0
+tail-byte : (st : State) (r : List ℕ) → length r ≡ 120 → kindIn r ≡ Tail → (c : ℕ) → inColumns c (tailSum ∷ []) ≡ false → getD (emit st r) c 0 ≡ getD (counted st r) c 0
 unfolding emit putAll
 tail-byte st r l e c h =
     let i = length-digits 7 (st .deleghe) in
@@ -140,12 +98,12 @@ module _ (name : List ℕ) (d s : ℕ) (a b : State) (r : List ℕ) (l : length 
   other-delega p h = o .elsewhere (λ q. h (carried-number _ _ p ∙ q))
 
   -- Outside the columns that may be touched it stays.
-  off-byte : {k : Kind} → Storing b k → kindIn r ≡ k → inAny c (storedColumns d s k own-number) ≡ false → getD (emit b r) c 0 ≡ getD r c 0
+  off-byte : {k : Kind} → Storing b k → kindIn r ≡ k → inColumns c (storedColumns d s k own-number) ≡ false → getD (emit b r) c 0 ≡ getD r c 0
   unfolding numberFault
   off-byte (plain z f) q h = ap (λ (x : List ℕ). getD x c 0) (emit-plain b r (rw q z))
   off-byte (balance t i) q h = go (eqb t s) (eqb own-number d) refl refl h
     where
-      go : (u v : Bool) → eqb t s ≡ u → eqb own-number d ≡ v → inAny c (cond u (cond v (balanceColumns s) []) []) ≡ false → getD (emit b r) c 0 ≡ getD r c 0
+      go : (u v : Bool) → eqb t s ≡ u → eqb own-number d ≡ v → inColumns c (cond u (cond v (balanceColumns s) []) []) ≡ false → getD (emit b r) c 0 ≡ getD r c 0
       go true true p w h =
           let x : t ≡ s = eqb-true t s p in
           emit-outside b r l c (rw (q, x) (covers-clear c (balanceColumns s) (storedOf b (Balance s)) (balance-covers s (sectionSums b s) (sectionAt s .totals)) h))
@@ -153,7 +111,7 @@ module _ (name : List ℕ) (d s : ℕ) (a b : State) (r : List ℕ) (l : length 
       go false v p w h = same-stored q (rw (blank-at s t (a .money .delega .sections) (b .money .delega .sections) (eqb-false t s p) (o .others)))
   off-byte payment q h = go (eqb own-number d) refl h
     where
-      go : (v : Bool) → eqb own-number d ≡ v → inAny c (cond v (finalBalance ∷ []) []) ≡ false → getD (emit b r) c 0 ≡ getD r c 0
+      go : (v : Bool) → eqb own-number d ≡ v → inColumns c (cond v (finalBalance ∷ []) []) ≡ false → getD (emit b r) c 0 ≡ getD r c 0
       go true w h = emit-outside b r l c (rw q (covers-clear c (finalBalance ∷ []) (storedOf b Payment) (refl, refl, tt) h))
       go false w h = same-stored q (rw (other-delega (number q) (eqb-false own-number d w)))
   off-byte tail q h =
@@ -162,14 +120,14 @@ module _ (name : List ℕ) (d s : ℕ) (a b : State) (r : List ℕ) (l : length 
       ∙ (sym (tail-byte a r l q c h) ∙ ap (λ (x : List ℕ). getD x c 0) (emit-own a r l name e)))
 
 -- So do the records behind the line.
-off-bytes : (name : List ℕ) (d s : ℕ) (a b : State) (rs : List (List ℕ)) → Sized rs → NoFault name a rs → Off d s a b → (q c : ℕ) → inAny c (storedColumns d s (kindIn (getD rs q [])) (valueOf (getD rs q []) delegaNumber)) ≡ false → getD (getD (rebalanced b rs) q []) c 0 ≡ getD (getD rs q []) c 0
+off-bytes : (name : List ℕ) (d s : ℕ) (a b : State) (rs : List (List ℕ)) → Sized rs → NoFault name a rs → Off d s a b → (q c : ℕ) → inColumns c (storedColumns d s (kindIn (getD rs q [])) (valueOf (getD rs q []) delegaNumber)) ≡ false → getD (getD (rebalanced b rs) q []) c 0 ≡ getD (getD rs q []) c 0
 unfolding rebalanced
 off-bytes name d s a b [] z f o q c h = refl
 off-bytes name d s a b (r ∷ rs) z f o zero c h = off-byte name d s a b r (z .0) o (f .0) c (storing b r) refl h
 off-bytes name d s a b (r ∷ rs) z f o (suc q) c h = off-bytes name d s (next a r) (next b r) rs (z .1) (f .1) (off-on d s a b r o) q c h
 
 -- So does the line.
-amended-outside : (s : ℕ) → s < 5 → (r : List ℕ) → length r ≡ 120 → (x y c : ℕ) → inAny c (lineColumns s) ≡ false → getD (amended s x y r) c 0 ≡ getD r c 0
+amended-outside : (s : ℕ) → s < 5 → (r : List ℕ) → length r ≡ 120 → (x y c : ℕ) → inColumns c (lineColumns s) ≡ false → getD (amended s x y r) c 0 ≡ getD r c 0
 unfolding amended
 amended-outside s w r l x y c h =
     let i = length-digits 15 x in
@@ -181,7 +139,7 @@ amended-outside s w r l x y c h =
 
 -- So do all records, where a line of section s in delega d gets other amounts.
 all-bytes : (name : List ℕ) (d s : ℕ) (st : State) (xs : List (List ℕ)) (r : List ℕ) (ys : List (List ℕ)) → Sized (xs ++ (r ∷ ys)) → NoFault name st (xs ++ (r ∷ ys)) → kindIn r ≡ Line s → stateAfter st xs .deleghe ≡ d → (x y q c : ℕ) →
-    (q ≡ length xs → inAny c (lineColumns s) ≡ false) → ((q ≡ length xs → ⊥) → inAny c (storedColumns d s (kindIn (getD (xs ++ (r ∷ ys)) q [])) (valueOf (getD (xs ++ (r ∷ ys)) q []) delegaNumber)) ≡ false) →
+    (q ≡ length xs → inColumns c (lineColumns s) ≡ false) → ((q ≡ length xs → ⊥) → inColumns c (storedColumns d s (kindIn (getD (xs ++ (r ∷ ys)) q [])) (valueOf (getD (xs ++ (r ∷ ys)) q []) delegaNumber)) ≡ false) →
     getD (getD (rebalanced st (xs ++ (amended s x y r ∷ ys))) q []) c 0 ≡ getD (getD (xs ++ (r ∷ ys)) q []) c 0
 unfolding rebalanced stateAfter
 all-bytes name d s st [] r ys z f e n x y zero c h g =

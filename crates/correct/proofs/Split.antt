@@ -25,7 +25,7 @@ use Rattle.judge.specs.Plain.{stateAfter}
 use Rattle.rebalance.specs.Rebalance.{Sized, flat}
 use Rattle.rebalance.proofs.Written.{both-true}
 use Rattle.layout.proofs.InTable.{line-within}
-use Rattle.rebalance.proofs.Flat.{length-flat, records-flat}
+use Rattle.rebalance.proofs.Flat.{length-flat, records-flat, flat-append}
 use Rattle.rebalance.proofs.Judged.{sized-records, flat-records}
 use Rattle.find.specs.Line.{isLine, lineFrom, lineOfKind, lineOf}
 use Rattle.find.proofs.NamedLine.{named-line, line-of-named}
@@ -97,12 +97,6 @@ line-found f d subtype n a h z = omega (arith, line-of-named f d subtype n (h .0
 
 pub has-line : (f : List ℕ) (d subtype n : ℕ) → judged f .verdict ≡ Accepted → (lineOf f d subtype n ≡ 0 → ⊥) → HasLine f d subtype n
 has-line f d subtype n a z = (lineOf f d subtype n, named-line f d subtype n (lineOf f d subtype n) a refl z)
-
--- The bytes of records one after the other are theirs.
-flat-append : (xs ys : List (List ℕ)) → flat (xs ++ ys) ≡ flat xs ++ flat ys
-unfolding flat
-flat-append [] ys = refl
-flat-append (x ∷ xs) ys = rw (flat-append xs ys) (sym (append-assoc x (flat xs) (flat ys)))
 
 -- Records of 120 bytes are so in each part.
 sized-parts : (xs ys : List (List ℕ)) → Sized (xs ++ ys) → Sized xs × Sized ys

@@ -5,14 +5,13 @@ use mathlib.Core.Bool.{Bool, true, false}
 use mathlib.Core.List.{List}
 use native.Mathlib.Omega.{arith}
 use borrow.Author.Tests.{lt-ltb, le-ltb}
-use lib.ListN.{length, take, drop, replicate}
-use lib.Seq.{take-all}
+use lib.ListN.{length, take, drop}
 use Rattle.text.specs.Numbers.{digitsOf}
-use Rattle.text.specs.Placing.{putAt, partBytes, numberBytes}
+use Rattle.text.specs.Placing.{putAt, numberBytes}
 use Rattle.text.proofs.Bytes.{part-length}
 use Rattle.text.proofs.Numerals.{length-digits}
-use Rattle.text.proofs.Puts.{length-put, put-here, put-before, put-same, put-over, put-back}
-use Rattle.text.proofs.Fits.{part-fits, part-written, number-fits, number-written}
+use Rattle.text.proofs.Puts.{length-put, put-before, put-same, put-over, put-back}
+use Rattle.text.proofs.Fits.{number-fits, number-written}
 use Rattle.layout.specs.Sections.{sectionAt}
 use Rattle.layout.proofs.Table.{row-rule}
 use Rattle.rules.specs.State.{startState}
@@ -24,22 +23,6 @@ use Rattle.rebalance.specs.Weigh.{anyNegative}
 use Rattle.correct.specs.declared.Correction.the-variants.{Made, Refused}
 use Rattle.correct.specs.Correction.{replaced, outcomeOf, weighed, tried}
 use Rattle.correct.specs.Writing.{amountsPut, Room, Fifteen, KthLine}
-
--- A part that lies within the room is put there.
-pub put-is : (s : ℕ) (bs r l : List ℕ) → s + length bs ≤ length r → l ≡ partBytes s bs r → l ≡ putAt s bs r
-put-is s bs r l h e = e ∙ part-written s bs r (part-fits s (length bs) (length r) h) .1
-
--- Fifteen bytes copied into room for fifteen are those bytes.
-pub copied : (bs l : List ℕ) → length bs ≡ 15 → l ≡ partBytes 0 bs (replicate 15 0) → l ≡ bs
-copied bs l h e =
-    let r : List ℕ = replicate 15 0 in
-    let g : 0 + length bs ≤ length r = omega arith in
-    let p = put-is 0 bs r l g e in
-    let n = length-put 0 bs r g in
-    p ∙ (sym (whole-take (putAt 0 bs r) (length bs) (omega arith)) ∙ put-here 0 bs r g (length bs) refl)
-  where
-    whole-take : (x : List ℕ) (n : ℕ) → length x ≡ n → take n x ≡ x
-    whole-take x n e = take-all n x (omega arith)
 
 module _ (f : List ℕ) (d c : ℕ) (room : Room f d c) where
   -- The bytes of an amount lie within the flow.

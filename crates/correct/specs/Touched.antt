@@ -1,8 +1,8 @@
 -- For theorems. "What a correction may touch": columns of the line, of its section's balance record, of its delega's 50-01 and of EF. "Nothing else, fillers and unread fields included."
 use Prim.Native.Nat.{ℕ, _+_, _/_, _%_}
-use mathlib.Core.Bool.{Bool, true, false, cond}
+use mathlib.Core.Bool.{Bool, cond}
 use mathlib.Core.List.{List, [], _∷_}
-use lib.Dec.{eqb, ltb, leb}
+use lib.Dec.{eqb}
 use lib.ListN.{getD}
 use Rattle.layout.specs.declared.Field.{Field}
 use Rattle.layout.specs.declared.Kind.{Kind}
@@ -11,6 +11,7 @@ use Rattle.layout.specs.Sections.{sectionAt}
 use Rattle.layout.specs.Kinds.{kindIn}
 use Rattle.layout.specs.Fields.{amountAt, delegaNumber, finalBalance, tailSum, valueOf}
 use Rattle.judge.specs.Flow.{recordsOf}
+use Rattle.rebalance.specs.Places.{inColumns, balanceColumns}
 use Rattle.find.specs.Line.{lineOf}
 use Rattle.correct.specs.Correction.{sectionOf}
 
@@ -18,17 +19,7 @@ use Rattle.correct.specs.Correction.{sectionOf}
 abbrev pub lineColumns : ℕ → List Field
 lineColumns s = amountAt (sectionAt s .debit) ∷ amountAt (sectionAt s .credit) ∷ []
 
--- So may "totals, sign and balance of that section's balance record".
-abbrev pub signAndBalance : ℕ → List Field
-signAndBalance s = record { start = sectionAt s .sign; end = sectionAt s .sign + 1 } ∷ amountAt (sectionAt s .balance) ∷ []
-
-abbrev pub balanceColumns : ℕ → List Field
-balanceColumns s =
-    cond (sectionAt s .totals)
-    (amountAt (sectionAt s .«total_debit») ∷ amountAt (sectionAt s .«total_credit») ∷ signAndBalance s)
-    (signAndBalance s)
-
--- So may "the final balance of that delega; the sum in EF". These are the columns in a record of a kind with delega number n, for a line of section s in delega d.
+-- So may "totals, sign and balance of that section's balance record; the final balance of that delega; the sum in EF". These are the columns in a record of a kind with delega number n, for a line of section s in delega d.
 abbrev pub storedColumns : ℕ → ℕ → Kind → ℕ → List Field
 storedColumns d s Head n = []
 storedColumns d s Taxpayer n = []
@@ -41,11 +32,6 @@ storedColumns d s Addressee n = []
 storedColumns d s Tail n = tailSum ∷ []
 storedColumns d s Unknown n = []
 
--- An index of a record lies in one of these fields.
-unfoldable pub inAny : ℕ → List Field → Bool
-inAny c [] = false
-inAny c (x ∷ xs) = cond (cond (leb (x .start) c) (ltb c (x .end)) false) true (inAny c xs)
-
 -- These are the columns that may be touched in a record behind q others, where the line is the k-th record.
 abbrev pub columnsOf : ℕ → ℕ → ℕ → ℕ → List ℕ → List Field
 columnsOf d s k q r = cond (eqb (q + 1) k) (lineColumns s) (storedColumns d s (kindIn r) (valueOf r delegaNumber))
@@ -53,4 +39,4 @@ columnsOf d s k q r = cond (eqb (q + 1) k) (lineColumns s) (storedColumns d s (k
 -- A correction of the line that is named may touch the byte at an index of the flow.
 unfoldable pub mayTouch : List ℕ → ℕ → ℕ → ℕ → ℕ → Bool
 mayTouch f d subtype n i =
-    inAny (i % 120) (columnsOf d (sectionOf subtype) (lineOf f d subtype n) (i / 120) (getD (recordsOf f) (i / 120) []))
+    inColumns (i % 120) (columnsOf d (sectionOf subtype) (lineOf f d subtype n) (i / 120) (getD (recordsOf f) (i / 120) []))

@@ -1,4 +1,4 @@
-// What the desk's programs have in common: arguments, a flow read whole, answers printed, one line for what went wrong; and, of the programs that the
+// What the desk's programs have in common: arguments, a flow read whole or saved, answers printed, one line for what went wrong; and, of the programs that the
 // gate runs, how a stored case is read.
 // What comes from or goes to a descriptor, and what the arguments are, is outside what a contract can say: a function that only prints or
 // asks promises that it is safe and ends. What can be said of an answer or of lent room is said.
@@ -6,6 +6,7 @@ mod answers;
 mod cases;
 mod messages;
 mod reading;
+mod saving;
 
 pub use answers::print_delega;
 pub use answers::print_judgement;
@@ -22,7 +23,13 @@ pub use messages::no_number;
 pub use reading::number_at;
 pub use reading::read_flow;
 pub use reading::read_to_end;
+pub use reading::read_word;
 pub use reading::unread;
+pub use saving::is_link;
+pub use saving::put_name;
+pub use saving::stored;
+pub use saving::tell_of;
+pub use saving::unsaved;
 
 // The five numbers of a run case's call.
 pub struct Numbers {

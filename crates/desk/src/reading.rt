@@ -77,8 +77,9 @@ fn read_named(command: &[u8], word: &[u8], room: &mut [u8]) -> isize
     got
 }
 
-// Reads the flow that the i-th argument names; a word that is missing is standard input. Negative, with one line on standard error, where it cannot be read.
-pub fn read_flow(command: &[u8], i: usize, room: &mut [u8]) -> isize
+// Reads what the i-th argument names; a word that is missing is standard input. Negative, with one line on standard error, where it cannot be read; a word
+// that is too long to be printed goes by its name in the usage.
+pub fn read_word(command: &[u8], name: &[u8], i: usize, room: &mut [u8]) -> isize
     ensures { λ r. ⌜ Moved (length (now (room .entry))) r ⌝ }
 {
     let mut word = io::buffer();
@@ -88,8 +89,15 @@ pub fn read_flow(command: &[u8], i: usize, room: &mut [u8]) -> isize
         return read_named(command, b"-", room);
     }
     if why != 0 {
-        unread(command, b"FILE");
+        unread(command, name);
         return -1;
     }
     read_named(command, &word[..n], room)
+}
+
+// Reads the flow that the i-th argument names, as `read_word` does.
+pub fn read_flow(command: &[u8], i: usize, room: &mut [u8]) -> isize
+    ensures { λ r. ⌜ Moved (length (now (room .entry))) r ⌝ }
+{
+    read_word(command, b"FILE", i, room)
 }

@@ -2,7 +2,7 @@
 use Prim.Native.Nat.{ℕ}
 use mathlib.Core.Path.{_≡_, sym, _∙_}
 use mathlib.Core.List.{List}
-use Rattle.f24.specs.Linked.{judgeCode, judgeRoom, delegaCode, delegaRoom, findCode, findRoom, correctCode, correctFlow, correctRoom, writeCode, writeFlow, writeRoom}
+use Rattle.f24.specs.Linked.{judgeCode, judgeRoom, delegaCode, delegaRoom, findCode, findRoom, correctCode, correctFlow, correctRoom, writeCode, writeRoom, writeAnswer}
 
 -- `f24_judge`: the number returned, and the room
 pub one-judge : (flow room : List ℕ) (a b : ℕ) (x y : List ℕ) →
@@ -35,7 +35,7 @@ module _ (flow : List ℕ) (d subtype n debit credit : ℕ) (room : List ℕ) wh
 module _ (sheet room answer : List ℕ) where
   -- what its contract allows
   abbrev pub Writes : ℕ → List ℕ → List ℕ → Type 0
-  Writes code f x = (code ≡ writeCode sheet room answer) × (f ≡ writeFlow sheet room answer) × (x ≡ writeRoom sheet room answer)
+  Writes code f x = (code ≡ writeCode sheet room answer) × (f ≡ writeRoom sheet room answer) × (x ≡ writeAnswer sheet room answer)
 
   pub one-write : (a b : ℕ) (f g x y : List ℕ) → Writes a f x → Writes b g y → (a ≡ b) × (f ≡ g) × (x ≡ y)
   one-write a b f g x y p q = (p .0 ∙ sym (q .0), p .1 ∙ sym (q .1), p .2 ∙ sym (q .2))

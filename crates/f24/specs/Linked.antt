@@ -14,7 +14,7 @@ use Rattle.find.specs.declared.Found.the-variants as Line
 use Rattle.find.specs.Line.{refusalFound, foundIn}
 use Rattle.correct.specs.Correction.{refusalMade, correctionOf, correctedBytes}
 use Rattle.write.specs.declared.Writing.{Writing}
-use Rattle.write.specs.declared.Writing.the-variants as Sheet
+use Rattle.write.specs.declared.Writing.the-variants as Flow
 use Rattle.write.specs.Writing.{refusalWritten, writingOf, roomAfter}
 
 -- The first numbers of a room are replaced by those of a list, and the rest stays as it came.
@@ -93,17 +93,17 @@ correctFlow f d subtype n debit credit room = cond (ltb (length room) 2) f (corr
 
 -- A flow that is written writes its length.
 abbrev pub writtenNumbers : Writing → List ℕ
-writtenNumbers (Sheet.Written n) = n ∷ []
-writtenNumbers (Sheet.Refused n r p) = []
+writtenNumbers (Flow.Written n) = n ∷ []
+writtenNumbers (Flow.Refused n r p) = []
 
 -- `f24_write` returns 100 for an answer of fewer than 2 numbers, and else what the writing of the sheet's flow into the room says.
 unfoldable pub writeCode : List ℕ → List ℕ → List ℕ → ℕ
 writeCode sheet room answer = codeOr 2 answer (refusalWritten (writingOf sheet room) .number)
 
 -- It leaves such an answer as it came, and else writes the flow's length or the refusal.
-unfoldable pub writeRoom : List ℕ → List ℕ → List ℕ → List ℕ
-writeRoom sheet room answer = roomOr 2 answer (answerNumbers (refusalWritten (writingOf sheet room)) (writtenNumbers (writingOf sheet room)))
+unfoldable pub writeAnswer : List ℕ → List ℕ → List ℕ → List ℕ
+writeAnswer sheet room answer = roomOr 2 answer (answerNumbers (refusalWritten (writingOf sheet room)) (writtenNumbers (writingOf sheet room)))
 
 -- It leaves the room as it came where the answer is too short, and else writes the flow into it.
-unfoldable pub writeFlow : List ℕ → List ℕ → List ℕ → List ℕ
-writeFlow sheet room answer = cond (ltb (length answer) 2) room (roomAfter sheet room)
+unfoldable pub writeRoom : List ℕ → List ℕ → List ℕ → List ℕ
+writeRoom sheet room answer = cond (ltb (length answer) 2) room (roomAfter sheet room)

@@ -1,12 +1,12 @@
 // The linkable library: a flow judged, one delega, one line, a correction, and a flow written from a sheet, with the answer in a room of numbers that the caller
 // lends.
-// Each function returns 0, the number of a refusal, or 100 where the room is too short; the numbers behind those it writes stay as they came.
+// Each function returns 0, the number of a refusal, or 100 where the room for the answer is too short; the numbers behind those it writes stay as they came.
 ghost use mathlib.Core.Path.{_≡_};
 ghost use Prim.Native.Nat.{_≤_};
 ghost use lib.ListN.{length};
 ghost use Rattle.f24.specs.Linked.{overlay, summaryNumbers, delegaNumbers, refusalNumbers};
 ghost use Rattle.f24.specs.Linked.{judgeCode, judgeRoom, delegaCode, delegaRoom, findCode, findRoom, correctCode, correctRoom, correctFlow};
-ghost use Rattle.f24.specs.Linked.{writeCode, writeFlow, writeRoom};
+ghost use Rattle.f24.specs.Linked.{writeCode, writeRoom, writeAnswer};
 use amounts::Sums;
 use correct::Correction;
 use find::Found;
@@ -190,8 +190,8 @@ pub extern "C" fn f24_correct(
 #[no_mangle]
 pub extern "C" fn f24_write(sheet: &[u8], room: &mut [u8], answer: &mut [u64]) -> u64
     ensures { λ r. ⌜ (r ≡ writeCode (now (sheet .entry)) (now (room .entry)) (now (answer .entry)))
-        × (now (room .exit) ≡ writeFlow (now (sheet .entry)) (now (room .entry)) (now (answer .entry)))
-        × (now (answer .exit) ≡ writeRoom (now (sheet .entry)) (now (room .entry)) (now (answer .entry))) ⌝ }
+        × (now (room .exit) ≡ writeRoom (now (sheet .entry)) (now (room .entry)) (now (answer .entry)))
+        × (now (answer .exit) ≡ writeAnswer (now (sheet .entry)) (now (room .entry)) (now (answer .entry))) ⌝ }
 {
     if answer.len() < WRITE_ROOM {
         return NO_ROOM;

@@ -1,11 +1,9 @@
 // Corrects one line of the flow in a file. The corrected flow is written to a new file beside it, which then takes its name, so that
 // the file holds either the old flow or the new one, whole. Two corrections at once are kept apart by the launcher, which locks the folder: the
 // kit's C library has no lock.
-ghost use Rattle.io.specs.Counts.{Counts};
 use args::Argument;
 use correct::Correction;
 use layout::Flow;
-use libc::STDERR_FILENO;
 use libc::types::stat;
 use libc::types::timespec;
 
@@ -23,20 +21,6 @@ struct Access {
     owner: u32,
     group: u32,
     mode: u32,
-}
-
-// One line on standard error about the named file.
-fn tell_of(path: &[u8], what: &[u8]) {
-    desk::begin_line(b"correct");
-    io::write_all(STDERR_FILENO, path);
-    io::write_all(STDERR_FILENO, what);
-}
-
-// One line on standard error where the corrected flow could not take the file's place, with the system's reason.
-fn unsaved(path: &[u8], what: &[u8]) {
-    desk::begin_line(b"correct");
-    io::write_all(STDERR_FILENO, path);
-    os::fail(what);
 }
 
 // What is known of no file.
@@ -85,17 +69,18 @@ fn filled(fd: i32, mode: u32, flow: &[u8]) -> bool {
     if libc::fchmod(fd, mode) < 0 {
         return false;
     }
-    if !io::write_all(fd, flow) {
-        return false;
-    }
-    libc::fsync(fd) == 0
+    desk::stored(fd, flow)
 }
 
 // Fills a new file and closes it. The line for a failure comes first, since closing might set another reason.
 fn written(fd: i32, old: &[u8], mode: u32, flow: &[u8]) -> bool {
     let whole = filled(fd, mode, flow);
     if !whole {
-        unsaved(old, b" is as it was, since the new file cannot be written");
+        desk::unsaved(
+            b"correct",
+            old,
+            b" is as it was, since the new file cannot be written",
+        );
     }
     libc::close(fd);
     whole
@@ -104,7 +89,8 @@ fn written(fd: i32, old: &[u8], mode: u32, flow: &[u8]) -> bool {
 // Has a new file take the old one's name.
 fn renamed(new: &[u8], old: &[u8]) -> bool {
     if os::rename(new, old) < 0 {
-        unsaved(
+        desk::unsaved(
+            b"correct",
             old,
             b" is as it was, since the new file cannot take its place",
         );
@@ -125,7 +111,8 @@ fn replaced(fd: i32, new: &[u8], old: &[u8], access: Access, flow: &[u8]) -> boo
         return false;
     }
     if !kept {
-        tell_of(
+        desk::tell_of(
+            b"correct",
             old,
             b" is corrected, and is now yours: its owner or group could not be kept\n",
         );
@@ -133,27 +120,12 @@ fn replaced(fd: i32, new: &[u8], old: &[u8], access: Access, flow: &[u8]) -> boo
     true
 }
 
-// The name of the new file: the old one's with a dot and six characters behind it, which `create_temp` chooses. It is empty where
-// the room is too short.
-fn put_name(room: &mut [u8], path: &[u8]) -> usize
-    ensures { λ r. ⌜ Counts r (now (room .exit)) ⌝ }
-{
-    if room.len() < 7 {
-        return 0;
-    }
-    if room.len() - 7 < path.len() {
-        return 0;
-    }
-    text::put_part(&mut *room, 0, path);
-    text::put_part(&mut *room, path.len(), b".XXXXXX");
-    path.len() + 7
-}
-
 // Makes the new file, and has it take the old one's place.
 fn saved_as(new: &mut [u8], old: &[u8], access: Access, flow: &[u8]) -> bool {
     let fd = os::create_temp(&mut *new);
     if fd < 0 {
-        unsaved(
+        desk::unsaved(
+            b"correct",
             old,
             b" is as it was, since no new file can be made beside it",
         );
@@ -165,7 +137,7 @@ fn saved_as(new: &mut [u8], old: &[u8], access: Access, flow: &[u8]) -> bool {
 // Saves the corrected flow under the name of the old one.
 fn saved(path: &[u8], access: Access, flow: &[u8]) -> bool {
     let mut room = io::buffer();
-    let n = put_name(&mut room, path);
+    let n = desk::put_name(&mut room, path);
     saved_as(&mut room[..n], path, access, flow)
 }
 
@@ -204,7 +176,7 @@ fn correct_bytes(fd: i32, path: &[u8], access: Access, call: Call) {
 fn correct_open(fd: i32, path: &[u8], call: Call) {
     let status = status_of(fd);
     if status.st_mode & libc::S_IFMT != libc::S_IFREG {
-        tell_of(path, b" is not a regular file\n");
+        desk::tell_of(b"correct", path, b" is not a regular file\n");
         return;
     }
     let access = Access {
@@ -215,32 +187,25 @@ fn correct_open(fd: i32, path: &[u8], call: Call) {
     correct_bytes(fd, path, access, call);
 }
 
-// Whether a path names a link to a file: the new file would take the place of the link and not of that file.
-fn is_link(path: [u8; 4096]) -> bool {
-    let mut ended = path;
-    ended[4095] = 0;
-    let mut target = [0u8; 1];
-    libc::readlink(&ended, &mut target) >= 0
-}
-
 // Corrects the flow in a file, which is opened for writing too, so that a file that may not be written is not replaced. A descriptor below 3 is that of an input or
-// an output that was closed: what is printed would go into the file.
+// an output that was closed: what is printed would go into the file. At a link, the new file would take the place of the link and not of the file behind it.
 fn correct_at(room: [u8; 4096], path: &[u8], call: Call) {
     let fd = os::open_update(path);
     if fd < 0 {
-        unsaved(path, b" cannot be changed");
+        desk::unsaved(b"correct", path, b" cannot be changed");
         return;
     }
     if fd < 3 {
         libc::close(fd);
-        tell_of(
+        desk::tell_of(
+            b"correct",
             path,
             b" is as it was: standard input, output and error must be open\n",
         );
         return;
     }
-    if is_link(room) {
-        tell_of(path, b" is a link: name the file itself\n");
+    if desk::is_link(room) {
+        desk::tell_of(b"correct", path, b" is a link: name the file itself\n");
     } else {
         correct_open(fd, path, call);
     }
@@ -252,7 +217,7 @@ fn correct_file(call: Call) {
     let mut path = io::buffer();
     let n = os::arg(1, &mut path);
     if os::errno() != 0 {
-        unsaved(b"FILE", b" cannot be changed");
+        desk::unsaved(b"correct", b"FILE", b" cannot be changed");
         return;
     }
     correct_at(path, &path[..n], call);

@@ -18,9 +18,8 @@ use Rattle.words.proofs.NumberWords.{same-number, other-number}
 use Rattle.layout.specs.declared.Field.{Field}
 use Rattle.layout.specs.declared.Kind.{Kind}
 use Rattle.layout.specs.declared.Kind.the-variants.{Head, Taxpayer, Domicile, Line, Balance, Payment, Receipt, Addressee, Tail, Unknown}
-use Rattle.layout.specs.Kinds.{kindIn}
+use Rattle.layout.specs.Kinds.{kindIn, numbered}
 use Rattle.layout.specs.Fields.{nowhere, delegaNumber, fieldsOf, bytesOf, valueOf}
-use Rattle.layout.specs.Forms.{numbered}
 use Rattle.layout.proofs.Amounts.{behind, number-first}
 use Rattle.layout.proofs.Spelled.{zero-behind}
 use Rattle.amounts.specs.declared.Outcome.{Outcome}

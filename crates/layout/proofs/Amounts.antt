@@ -13,9 +13,8 @@ use Rattle.layout.specs.declared.Section.{Section}
 use Rattle.layout.specs.declared.Kind.{Kind}
 use Rattle.layout.specs.declared.Kind.the-variants.{Head, Taxpayer, Domicile, Line, Balance, Payment, Receipt, Addressee, Tail, Unknown}
 use Rattle.layout.specs.Sections.{sections, noSection, sectionAt}
-use Rattle.layout.specs.Kinds.{kindIn}
+use Rattle.layout.specs.Kinds.{kindIn, numbered}
 use Rattle.layout.specs.Fields.{Within, fieldsOf, nowhere, amountAt, delegaNumber}
-use Rattle.layout.specs.Forms.{numbered}
 use Rattle.layout.proofs.InTable.{sectionOf, section-within}
 use Rattle.layout.proofs.Within.{fields-within, fields-four}
 use Rattle.layout.proofs.Table.{both, both-left, both-right, at-each}

@@ -111,3 +111,16 @@ ofPayment other x Receipt = other
 ofPayment other x Addressee = other
 ofPayment other x Tail = other
 ofPayment other x Unknown = other
+
+-- "all records of a delega carry its number"
+unfoldable pub numbered : Kind → Bool
+numbered Head = false
+numbered Taxpayer = true
+numbered Domicile = true
+numbered (Line s) = true
+numbered (Balance s) = true
+numbered Payment = true
+numbered Receipt = true
+numbered Addressee = true
+numbered Tail = false
+numbered Unknown = false

@@ -2,9 +2,9 @@
 ghost use mathlib.Core.Path.{_≡_};
 ghost use Prim.Native.Nat.{_/_, _%_};
 ghost use lib.ListN.{length};
-ghost use Rattle.layout.specs.Kinds.{typeOf, kindOf, kindIn};
+ghost use Rattle.layout.specs.Kinds.{typeOf, kindOf, kindIn, numbered};
 ghost use Rattle.layout.specs.declared.RecordType.the-variants.{T40, T50};
-ghost use Rattle.layout.specs.Forms.{numbered, formWith, formOf};
+ghost use Rattle.layout.specs.Forms.{formWith, formOf};
 ghost use Rattle.text.specs.Numbers.{numberOf};
 ghost use mathlib.Core.List.{[], _∷_};
 use crate::Form;

@@ -1,4 +1,4 @@
--- Believed. The lenient judgement of records: document 01's first fault, with every total, sign, balance and tail value taken as right.
+-- Believed down to `orRefused`; what follows serves inner functions. The lenient judgement of records: document 01's first fault, with every total, sign, balance and tail value taken as right.
 use Prim.Native.Nat.{ℕ, _+_}
 use mathlib.Core.Bool.{cond}
 use mathlib.Core.List.{List, [], _∷_}
@@ -11,28 +11,22 @@ use Rattle.amounts.specs.Outcomes.{first}
 use Rattle.rules.specs.declared.State.{State}
 use Rattle.rules.specs.Checks.{charFault}
 use Rattle.rules.specs.Step.{next}
-use Rattle.judge.specs.Refusal.{Refusal, refusal, noRefusal}
 use Rattle.rebalance.specs.Rebalance.{keptFault}
 use Rattle.lenient.specs.declared.Lenient.{Lenient}
 use Rattle.lenient.specs.declared.Lenient.the-variants.{Passed, Refused}
-
--- the refusal of an answer; records that pass have none
-abbrev pub refusalKept : Lenient → Refusal
-refusalKept Passed = noRefusal
-refusalKept (Refused n r p) = refusal n r p
-
--- 4 at the one record that is known to stand in a place of another kind, the m-th, at position p; m is 0 where there is none. n records stand before
-unfoldable pub misfitFault : ℕ → ℕ → ℕ → Outcome
-misfitFault m p n = cond (eqb m (n + 1)) (Fault 4 p) Pass
-
--- the first failed check of a record, among those that stay: 3, that 4, and then those that rebalancing leaves alone
-unfoldable pub lenientFault : List ℕ → ℕ → ℕ → State → List ℕ → Outcome
-lenientFault name m p st r = first (charFault (firstBad r)) (first (misfitFault m p (st .seen)) (keptFault name st r))
 
 -- "the first blocking fault ends the judgement", at the record after those seen
 abbrev pub orRefused : Outcome → ℕ → Lenient → Lenient
 orRefused Pass n x = x
 orRefused (Fault e p) n x = Refused e (n + 1) p
+
+-- 4 at the one record that is known to stand in a place of another kind, the m-th, at position p; m is 0 where there is none. n records stand before
+unfoldable pub misfitFault : ℕ → ℕ → ℕ → Outcome
+misfitFault m p n = cond (eqb m (n + 1)) (Fault 4 p) Pass
+
+-- the first failed check of a record, among those that stay: 3, that 4, and then those that rebalancing leaves alone, of which the first is 3 again and has passed
+unfoldable pub lenientFault : List ℕ → ℕ → ℕ → State → List ℕ → Outcome
+lenientFault name m p st r = first (charFault (firstBad r)) (first (misfitFault m p (st .seen)) (keptFault name st r))
 
 -- "Refusal 5 comes after all records have passed"
 unfoldable pub ended : State → Lenient

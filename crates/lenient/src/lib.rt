@@ -174,8 +174,8 @@ fn ended(st: State) -> Lenient
     Lenient::Refused(5, st.seen + 1, 0)
 }
 
-// The lenient judgement of a flow of whole records. The m-th record, where m is not 0, is known to stand in a place of another kind, and is refused with 4 at
-// that position.
+// The lenient judgement of a flow of whole records. The record whose number is `misfit`, where that is not 0, is known to stand in a place of another kind, and is
+// refused with 4 at that position.
 pub fn judge_kept(flow: &[u8], misfit: usize, position: usize) -> Lenient
     requires { ⌜ Whole (now flow) ⌝ }
     ensures { λ r. ⌜ r ≡ lenientFrom (headNameOf (now (flow .entry))) misfit position startState (recordsOf (now (flow .entry))) ⌝ }

@@ -24,22 +24,22 @@ use Rattle.rebalance.proofs.Written.{byte-of, laid, length-putAll, putA
 use Rattle.rebalance.proofs.Columns.{Storing, plain, balance, payment, tail, storing, Columns, columns, printable-stored, fields-same}
 
 -- What the other checks and the next state read of a record is the same in another.
-record Kept (name : List ℕ) (st : State) (k : Kind) (r out : List ℕ) : Type 0 where
-  fields : badFields (keptFields k) out ≡ badFields (keptFields k) r
-  own : ownFault name st k out ≡ ownFault name st k r
-  sums : lineSums k out ≡ lineSums k r
+pub record Kept (name : List ℕ) (st : State) (k : Kind) (r out : List ℕ) : Type 0 where
+  pub fields : badFields (keptFields k) out ≡ badFields (keptFields k) r
+  pub own : ownFault name st k out ≡ ownFault name st k r
+  pub sums : lineSums k out ≡ lineSums k r
 
 -- Whether the bytes of a delega number are digits.
 abbrev numberDigits : List ℕ → Outcome
 numberDigits b = orBad (numberOf b) delegaNumber Pass
 
--- Writing the stored fields leaves what the other checks and the next state read.
-kept : {st : State} {k : Kind} → Storing st k → Columns (storedOf st k) → (name r : List ℕ) → ((m n : ℕ) → clear m n (storedOf st k) ≡ true → take n (drop m (putAll (storedOf st k) r)) ≡ take n (drop m r)) → Kept name st k r (putAll (storedOf st k) r)
+-- Writing the stored fields, after whatever state, leaves what the other checks and the next state read.
+pub kept : {s : State} {k : Kind} → Storing s k → Columns (storedOf s k) → (name : List ℕ) (st : State) (r : List ℕ) → ((m n : ℕ) → clear m n (storedOf s k) ≡ true → take n (drop m (putAll (storedOf s k) r)) ≡ take n (drop m r)) → Kept name st k r (putAll (storedOf s k) r)
 unfolding badFields putAll clear
-kept (plain e f) c name r part = rw e (record { fields = refl; own = refl; sums = refl })
-kept (balance s h) c name r part = record { fields = ap numberDigits (part 3 7 (c .delega-number)); own = refl; sums = refl }
-kept payment c name r part = record { fields = ap numberDigits (part 3 7 (c .delega-number)); own = refl; sums = refl }
-kept tail c name r part = record { fields = refl; own = ap (tailName name) (part 19 20 refl); sums = refl }
+kept (plain e f) c name st r part = rw e (record { fields = refl; own = refl; sums = refl })
+kept (balance x h) c name st r part = record { fields = ap numberDigits (part 3 7 (c .delega-number)); own = refl; sums = refl }
+kept payment c name st r part = record { fields = ap numberDigits (part 3 7 (c .delega-number)); own = refl; sums = refl }
+kept tail c name st r part = record { fields = refl; own = ap (tailName name) (part 19 20 refl); sums = refl }
 
 -- A record that has no character fault is made of characters.
 pub allowed-of : (c : Characters) → charFault c ≡ Pass → c ≡ Allowed
@@ -138,7 +138,7 @@ module _ (st : State) (r : List ℕ) (l : length r ≡ 120) where
   -- What the other checks and the next state read of it stays.
   emit-kept : (name : List ℕ) → Kept name st (kindIn r) r (emit st r)
   unfolding emit
-  emit-kept name = kept (storing st r) places name r emit-part
+  emit-kept name = kept (storing st r) places name st r emit-part
 
   -- The next state ignores what rebalancing writes.
   pub next-emit : next st (emit st r) ≡ next st r

@@ -1,12 +1,18 @@
 -- The bytes of a flow and its records.
 use Prim.Native.Nat.{ℕ, zero, suc, _*_, _/_, _≤_}
-use mathlib.Core.Path.{_≡_, refl, ap, ap₂, _∙_}
-use mathlib.Core.List.{List, [], _∷_, _++_}
+use mathlib.Core.Path.{_≡_, refl, sym, ap, ap₂, _∙_}
+use mathlib.Core.List.{List, [], _∷_, _++_, append-assoc}
 use native.Mathlib.Omega.{arith}
 use lib.ListN.{length, take, drop, length-append, length-drop, take-append-drop}
 use lib.Seq.{take-at, drop-at, length-take-le, drop-append-le, take-append-le}
 use Rattle.judge.specs.Flow.{chunks, recordsOf, headNameOf}
 use Rattle.rebalance.specs.Rebalance.{Sized, flat}
+
+-- The bytes of records one after the other are theirs.
+pub flat-append : (xs ys : List (List ℕ)) → flat (xs ++ ys) ≡ flat xs ++ flat ys
+unfolding flat
+flat-append [] ys = refl
+flat-append (x ∷ xs) ys = rw (flat-append xs ys) (sym (append-assoc x (flat xs) (flat ys)))
 
 -- Records of 120 bytes have as many bytes together as 120 times their number.
 pub length-flat : (rs : List (List ℕ)) → Sized rs → length (flat rs) ≡ length rs * 120

@@ -10,3 +10,4 @@ pub mod Fitting
 pub mod Stores
 pub mod Surveys
 pub mod Passes
+pub mod Outside

@@ -1,2 +1,3 @@
 pub mod Rebalance
 pub mod Weigh
+pub mod Places

@@ -1,4 +1,4 @@
--- Believed down to `flat`; what follows is for theorems. Rebalancing: every stored field of every record is written anew from the lines, and nothing else is touched.
+-- Believed down to `keptFault`; what follows is for theorems. Rebalancing: every stored field of every record is written anew from the lines, and nothing else is touched.
 use Prim.Native.Nat.{ℕ, _+_, _-_, _^_}
 use mathlib.Core.Path.{_≡_}
 use mathlib.Core.Bool.{Bool, true, false, cond}
@@ -72,11 +72,6 @@ unfoldable pub flat : List (List ℕ) → List ℕ
 flat [] = []
 flat (r ∷ rs) = r ++ flat rs
 
--- The n bytes from index m on lie outside every one of these stored fields.
-unfoldable pub clear : ℕ → ℕ → List Stored → Bool
-clear m n [] = true
-clear m n (x ∷ xs) = cond (cond (leb (m + n) (startOf x)) true (leb (startOf x + widthOf x) m)) (clear m n xs) false
-
 -- The numeric fields that are not stored, in the order of position.
 abbrev pub keptFields : Kind → List Field
 keptFields Head = creationDate ∷ []
@@ -96,6 +91,11 @@ keptFault name st r =
     first (charFault (firstBad r))
     (first (standing (st .stage) (typeIn r) (kindIn r))
     (first (badFields (keptFields (kindIn r)) r) (first (numberFault (st .deleghe) (kindIn r) (valueOf r delegaNumber)) (ownFault name st (kindIn r) r))))
+
+-- The n bytes from index m on lie outside every one of these stored fields.
+unfoldable pub clear : ℕ → ℕ → List Stored → Bool
+clear m n [] = true
+clear m n (x ∷ xs) = cond (cond (leb (m + n) (startOf x)) true (leb (startOf x + widthOf x) m)) (clear m n xs) false
 
 -- Every record has 120 bytes.
 abbrev pub Sized : List (List ℕ) → Type 0

@@ -4,7 +4,7 @@ use mathlib.Core.Path.{_≡_, refl}
 use mathlib.Core.Bool.{true, false≢true}
 use Rattle.layout.specs.declared.Kind.{Kind}
 use Rattle.layout.specs.declared.Kind.the-variants.{Head, Taxpayer, Domicile, Line, Balance, Payment, Receipt, Addressee, Tail, Unknown}
-use Rattle.layout.specs.Forms.{numbered}
+use Rattle.layout.specs.Kinds.{numbered}
 use Rattle.rules.specs.Checks.{carried, numberFault}
 use Rattle.rules.specs.Step.{nextDeleghe}
 

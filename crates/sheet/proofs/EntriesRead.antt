@@ -12,7 +12,7 @@ use Rattle.text.proofs.Numerals.{number-digits, length-digits}
 use Rattle.text.proofs.Puts.{length-put}
 use Rattle.layout.specs.declared.Kind.the-variants.{Head, Line, Balance, Payment, Tail}
 use Rattle.layout.specs.Sections.{sectionAt}
-use Rattle.layout.specs.Forms.{numbered}
+use Rattle.layout.specs.Kinds.{numbered}
 use Rattle.rebalance.specs.Rebalance.{Sized}
 use Rattle.sheet.specs.Slots.{typeText, subtypeText, madeBalance}
 use Rattle.sheet.specs.Sheet.{Entry, entry, Read, sheetOf}

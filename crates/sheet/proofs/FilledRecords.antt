@@ -10,7 +10,7 @@ use Rattle.text.specs.Placing.{putAt}
 use Rattle.text.proofs.Numerals.{length-digits}
 use Rattle.text.proofs.Puts.{length-put}
 use Rattle.layout.specs.declared.Kind.{Kind}
-use Rattle.layout.specs.Forms.{numbered}
+use Rattle.layout.specs.Kinds.{numbered}
 use Rattle.rules.specs.declared.State.{State}
 use Rattle.rules.specs.State.{startState}
 use Rattle.rules.specs.Stored.{storedOf}

@@ -1,11 +1,12 @@
-pub mod SlotKinds
+pub mod SlotPassed
 pub mod FilledRecords
 pub mod SaidBySheet
 pub mod ReadsContents
 pub mod EntriesRead
 pub mod SheetLength
-pub mod KindSlots
+pub mod SlotExactly
 pub mod SlotPlaces
 pub mod Written
 pub mod Walks
 pub mod Steps
+pub mod MadeRecords

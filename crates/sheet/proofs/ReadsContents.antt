@@ -15,7 +15,7 @@ use Rattle.layout.specs.declared.Kind.{Kind}
 use Rattle.layout.specs.declared.Kind.the-variants.{Head, Taxpayer, Domicile, Line, Balance, Payment, Tail}
 use Rattle.rebalance.specs.Rebalance.{flat, Sized}
 use Rattle.sheet.specs.Slots.{madeBalance}
-use Rattle.sheet.specs.Sheet.{Entry, entry, Reading, NoSheet, Read, andThen, oneRecord, counted, linesFrom, sectionOf, sectionsFrom, delegaOf, delegheFrom, atEnd, sheetOf}
+use Rattle.sheet.specs.Sheet.{Entry, entry, Reading, NoSheet, Read, andThen, oneRecord, counted, linesFrom, oneSection, sectionsFrom, oneDelega, delegheFrom, atEnd, sheetOf}
 use Rattle.sheet.specs.Contents.{Delega, Contents, sectionsText, delegaText, delegheText, sheetText, sectionsEntries, delegaEntries, delegheEntries, entriesOf, All, SectionKeyed, DelegaKeyed, Keyed, IsSheet}
 use Rattle.sheet.proofs.SaidBySheet.{sheet-said}
 
@@ -43,17 +43,17 @@ lines-read x d (r ∷ rs) t z = rw append-assoc (then-reads (linesFrom x d (leng
 
 -- Sections are read.
 sections-read : (d x : ℕ) (rss : List (List (List ℕ))) (t : List ℕ) → All SectionKeyed rss → sectionsFrom d (length rss) x (sectionsText rss ++ t) ≡ Read (sectionsEntries d x rss) t
-unfolding sectionsFrom sectionsText sectionsEntries sectionOf
+unfolding sectionsFrom sectionsText sectionsEntries oneSection
 sections-read d x [] t k = refl
 sections-read d x (rs ∷ rss) t k =
     let tail = sectionsText rss ++ t in
     let made : ℕ → List Entry = λ n. cond (eqb n 0) [] (entry (Balance x) d (madeBalance x) ∷ []) in
     rw (append-assoc (digitsOf 2 (length rs)) (flat rs ++ sectionsText rss) t, append-assoc (flat rs) (sectionsText rss) t)
-    (then-reads (sectionsFrom d (length rss) (x + 1)) (count-reads 2 (length rs) (flat rs ++ tail) (sectionOf x d) (k .0 .0) ∙ then-reads (Read (made (length rs))) (lines-read x d rs tail (k .0 .1)) refl) (sections-read d (x + 1) rss t (k .1)))
+    (then-reads (sectionsFrom d (length rss) (x + 1)) (count-reads 2 (length rs) (flat rs ++ tail) (oneSection x d) (k .0 .0) ∙ then-reads (Read (made (length rs))) (lines-read x d rs tail (k .0 .1)) refl) (sections-read d (x + 1) rss t (k .1)))
 
 -- A delega is read.
-delega-reads : (d : ℕ) (g : Delega) (t : List ℕ) → DelegaKeyed g → delegaOf d (delegaText g ++ t) ≡ Read (delegaEntries d g) t
-unfolding delegaOf
+delega-reads : (d : ℕ) (g : Delega) (t : List ℕ) → DelegaKeyed g → oneDelega d (delegaText g ++ t) ≡ Read (delegaEntries d g) t
+unfolding oneDelega
 delega-reads d g t k =
     rw (append-assoc (g .ten) (g .twenty ++ (sectionsText (g .sections) ++ g .fifty)) t, append-assoc (g .twenty) (sectionsText (g .sections) ++ g .fifty) t, append-assoc (sectionsText (g .sections)) (g .fifty) t)
     (then-reads (λ v. andThen (oneRecord Domicile d v) (λ u. andThen (sectionsFrom d 5 0 u) (oneRecord Payment d))) (record-reads Taxpayer d (g .ten) _ (k .ten-sized))

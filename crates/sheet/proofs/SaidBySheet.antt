@@ -16,7 +16,7 @@ use Rattle.layout.specs.declared.Kind.{Kind}
 use Rattle.layout.specs.declared.Kind.the-variants.{Head, Taxpayer, Domicile, Line, Balance, Payment, Tail}
 use Rattle.rebalance.specs.Rebalance.{flat, Sized}
 use Rattle.sheet.specs.Slots.{madeBalance}
-use Rattle.sheet.specs.Sheet.{Entry, entry, Reading, NoSheet, Read, before, andThen, oneRecord, ofCount, counted, linesFrom, sectionOf, sectionsFrom, delegaOf, delegheFrom, atEnd, sheetOf}
+use Rattle.sheet.specs.Sheet.{Entry, entry, Reading, NoSheet, Read, before, andThen, oneRecord, ofCount, counted, linesFrom, oneSection, sectionsFrom, oneDelega, delegheFrom, atEnd, sheetOf}
 use Rattle.sheet.specs.Contents.{sectionsText, delegaText, delegheText, sheetText, sectionEntries, sectionsEntries, delegaEntries, delegheEntries, entriesOf, All, SectionKeyed, DelegaKeyed, Keyed, IsSheet}
 
 -- What is read once is read alike.
@@ -116,8 +116,8 @@ lines-said x d (suc n) s es rest e =
     (then-said (oneRecord (Line x) d s) (linesFrom x d n) s es rest (record-said (Line x) d s) (λ m ys. lines-said x d n m ys rest) e)
 
 -- A section: its lines, and the balance record that is made.
-section-said : (x d n : ℕ) (s : List ℕ) (es : List Entry) (rest : List ℕ) → sectionOf x d n s ≡ Read es rest → Says (λ rs. (length rs ≡ n) × Sized rs) flat (sectionEntries d x) s es rest
-unfolding sectionOf
+section-said : (x d n : ℕ) (s : List ℕ) (es : List Entry) (rest : List ℕ) → oneSection x d n s ≡ Read es rest → Says (λ rs. (length rs ≡ n) × Sized rs) flat (sectionEntries d x) s es rest
+unfolding oneSection
 section-said x d n s es rest e =
     let made : ℕ → List Entry = λ m. cond (eqb m 0) [] (entry (Balance x) d (madeBalance x) ∷ []) in
     let b = both (linesFrom x d n s) (Read (made n)) es rest e in
@@ -135,11 +135,11 @@ unfolding sectionsFrom sectionsText sectionsEntries
 sections-said d zero x s es rest e = record { what = []; fine = (refl, tt); said = cc; written = cc }
 sections-said d (suc n) x s es rest e =
     worded (λ p. p .0 ∷ p .1) (λ p h. (ap suc (h .1 .0), (h .0, h .1 .1))) (λ p. append-assoc (digitsOf 2 (length (p .0))) (flat (p .0)) (sectionsText (p .1))) (λ p. refl)
-    (then-said (counted 2 s (sectionOf x d)) (sectionsFrom d n (x + 1)) s es rest (λ xs m. count-said 2 length s (sectionOf x d) xs m (λ k t. section-said x d k t xs m)) (λ m ys. sections-said d n (x + 1) m ys rest) e)
+    (then-said (counted 2 s (oneSection x d)) (sectionsFrom d n (x + 1)) s es rest (λ xs m. count-said 2 length s (oneSection x d) xs m (λ k t. section-said x d k t xs m)) (λ m ys. sections-said d n (x + 1) m ys rest) e)
 
 -- A delega.
-delega-said : (d : ℕ) (s : List ℕ) (es : List Entry) (rest : List ℕ) → delegaOf d s ≡ Read es rest → Says DelegaKeyed delegaText (delegaEntries d) s es rest
-unfolding delegaOf
+delega-said : (d : ℕ) (s : List ℕ) (es : List Entry) (rest : List ℕ) → oneDelega d s ≡ Read es rest → Says DelegaKeyed delegaText (delegaEntries d) s es rest
+unfolding oneDelega
 delega-said d s es rest e =
     worded (λ p. record { ten = p .0; twenty = p .1 .0; sections = p .1 .1 .0; fifty = p .1 .1 .1 })
     (λ p h. record { ten-sized = h .0; twenty-sized = h .1 .0; five = h .1 .1 .0 .0; each = h .1 .1 .0 .1; fifty-sized = h .1 .1 .1 }) (λ p. refl) (λ p. refl)
@@ -153,7 +153,7 @@ unfolding delegheFrom delegheText delegheEntries
 deleghe-said zero d s es rest e = record { what = []; fine = (refl, tt); said = cc; written = cc }
 deleghe-said (suc n) d s es rest e =
     worded (λ p. p .0 ∷ p .1) (λ p h. (ap suc (h .1 .0), (h .0, h .1 .1))) (λ p. refl) (λ p. refl)
-    (then-said (delegaOf d s) (delegheFrom n (d + 1)) s es rest (delega-said d s) (λ m ys. deleghe-said n (d + 1) m ys rest) e)
+    (then-said (oneDelega d s) (delegheFrom n (d + 1)) s es rest (delega-said d s) (λ m ys. deleghe-said n (d + 1) m ys rest) e)
 
 -- The end of a sheet says nothing more.
 end-said : (s : List ℕ) (es : List Entry) (rest : List ℕ) → atEnd s ≡ Read es rest → Says (λ (z : Unit {0}). rest ≡ []) (λ z. []) (λ z. []) s es rest

@@ -1,8 +1,8 @@
 -- What each part of a sheet comes to: a record, a count with what it counts, the lines of a section with the balance record behind them.
-use Prim.Native.Nat.{ℕ, zero, suc, _+_, _-_, _*_, _^_, _≤_, _<_}
+use Prim.Native.Nat.{ℕ, zero, suc, _+_, _-_, _^_, _≤_, _<_}
 use mathlib.Core.Path.{_≡_, refl, sym, ap, subst, _∙_}
 use mathlib.Core.Bool.{Bool, true, false, cond, false≢true}
-use mathlib.Core.List.{List, [], _∷_, _++_}
+use mathlib.Core.List.{List, [], _∷_}
 use native.Mathlib.Omega.{arith}
 use borrow.Author.Tests.{lt-ltb, le-ltb, ltb-false, eq-eqb, ne-eqb}
 use lib.Dec.{ltb, lit≤}
@@ -21,7 +21,7 @@ use Rattle.sheet.specs.declared.Spot.{Spot}
 use Rattle.sheet.specs.declared.Walked.{Walked}
 use Rattle.sheet.specs.declared.Walked.the-variants as Way
 use Rattle.sheet.specs.Slots.{madeBalance}
-use Rattle.sheet.specs.Sheet.{Entry, entry, Reading, NoSheet, Read, andThen, ofCount, oneRecord, counted, linesFrom, sectionOf, sectionsFrom, delegaOf, delegheFrom, atEnd, sheetOf}
+use Rattle.sheet.specs.Sheet.{Entry, entry, Reading, NoSheet, Read, andThen, ofCount, oneRecord, counted, linesFrom, oneSection, sectionsFrom, oneDelega, delegheFrom, atEnd, sheetOf}
 use Rattle.sheet.specs.Walk.{countAt, startSpot, beyondBy, Here, Enters, Reaches, Follows}
 use Rattle.sheet.proofs.Walks.{Going, reaches-none, reaches-entered, follows-moved, follows-then, follows-stop, here-after}
 
@@ -71,7 +71,7 @@ unfolding linesFrom
 lines-end x d n s e = rw e
 
 -- So with the sections,
-pub sections-on : (d n x : ℕ) (s : List ℕ) → x < n → sectionsFrom d (n - x) x s ≡ andThen (counted 2 s (sectionOf x d)) (sectionsFrom d (n - (x + 1)) (x + 1))
+pub sections-on : (d n x : ℕ) (s : List ℕ) → x < n → sectionsFrom d (n - x) x s ≡ andThen (counted 2 s (oneSection x d)) (sectionsFrom d (n - (x + 1)) (x + 1))
 unfolding sectionsFrom
 sections-on d n x s h = let e : n - x ≡ suc (n - (x + 1)) = omega arith in rw e
 
@@ -80,7 +80,7 @@ unfolding sectionsFrom
 sections-end d n x s h = let e : n - x ≡ 0 = omega arith in rw e
 
 -- and with the deleghe.
-pub deleghe-on : (n d : ℕ) (s : List ℕ) → d < n → delegheFrom (n - d) (d + 1) s ≡ andThen (delegaOf (d + 1) s) (delegheFrom (n - (d + 1)) (d + 1 + 1))
+pub deleghe-on : (n d : ℕ) (s : List ℕ) → d < n → delegheFrom (n - d) (d + 1) s ≡ andThen (oneDelega (d + 1) s) (delegheFrom (n - (d + 1)) (d + 1 + 1))
 unfolding delegheFrom
 deleghe-on n d s h = let e : n - d ≡ suc (n - (d + 1)) = omega arith in rw e
 
@@ -139,27 +139,27 @@ module _ (sheet name : List ℕ) (a : Spot) (f : List ℕ) where
 
   module _ (x d n : ℕ) (q : Digits) (e : q ≡ countAt 2 (drop (a .at) sheet)) (i : q ≡ Number n) where
     -- The lines of a section cannot be read.
-    pub section-stops : (w : Walked) (g : List ℕ) → Follows sheet name (beyondBy a 2) f (linesFrom x d n (drop (a .at + 2) sheet)) w g → w ≡ Way.NoSheet → Follows sheet name a f (counted 2 (drop (a .at) sheet) (sectionOf x d)) Way.NoSheet g
-    unfolding sectionOf
-    section-stops w g y j = counts sheet name a f 2 n (sectionOf x d) q Way.NoSheet g e i (follows-stop sheet name (beyondBy a 2) f (linesFrom x d n (drop (a .at + 2) sheet)) g _ (subst (λ (v : Walked). Follows sheet name (beyondBy a 2) f (linesFrom x d n (drop (a .at + 2) sheet)) v g) j y))
+    pub section-stops : (w : Walked) (g : List ℕ) → Follows sheet name (beyondBy a 2) f (linesFrom x d n (drop (a .at + 2) sheet)) w g → w ≡ Way.NoSheet → Follows sheet name a f (counted 2 (drop (a .at) sheet) (oneSection x d)) Way.NoSheet g
+    unfolding oneSection
+    section-stops w g y j = counts sheet name a f 2 n (oneSection x d) q Way.NoSheet g e i (follows-stop sheet name (beyondBy a 2) f (linesFrom x d n (drop (a .at + 2) sheet)) g _ (subst (λ (v : Walked). Follows sheet name (beyondBy a 2) f (linesFrom x d n (drop (a .at + 2) sheet)) v g) j y))
 
     module _ (w : Walked) (b : Spot) (g : List ℕ) (y : Follows sheet name (beyondBy a 2) f (linesFrom x d n (drop (a .at + 2) sheet)) w g) (j : w ≡ Way.To b) where
       told : Follows sheet name (beyondBy a 2) f (linesFrom x d n (drop (a .at + 2) sheet)) (Way.To b) g
       told = subst (λ (v : Walked). Follows sheet name (beyondBy a 2) f (linesFrom x d n (drop (a .at + 2) sheet)) v g) j y
 
       -- A section without lines has no balance record.
-      pub section-empty : Here sheet (beyondBy a 2) f → n ≡ 0 → Follows sheet name a f (counted 2 (drop (a .at) sheet) (sectionOf x d)) (Way.To b) g
-      unfolding sectionOf
+      pub section-empty : Here sheet (beyondBy a 2) f → n ≡ 0 → Follows sheet name a f (counted 2 (drop (a .at) sheet) (oneSection x d)) (Way.To b) g
+      unfolding oneSection
       section-empty h z =
-          counts sheet name a f 2 n (sectionOf x d) q (Way.To b) g e i
+          counts sheet name a f 2 n (oneSection x d) q (Way.To b) g e i
           (follows-then sheet name (beyondBy a 2) f (linesFrom x d n (drop (a .at + 2) sheet)) b g _ (Way.To b) g told
           (rw (eq-eqb n 0 z) (reaches-none sheet name b g (here-after sheet name (beyondBy a 2) f (linesFrom x d n (drop (a .at + 2) sheet)) b g h told .within))))
 
       -- Behind the lines of any other stands the balance record that is made.
-      pub section-made : (r : List ℕ) (c : Spot) (h : List ℕ) → (n ≡ 0 → ⊥) → r ≡ madeBalance x → Enters name b g (entry (Balance x) d r) c h → Follows sheet name a f (counted 2 (drop (a .at) sheet) (sectionOf x d)) (Way.To c) h
-      unfolding sectionOf
+      pub section-made : (r : List ℕ) (c : Spot) (h : List ℕ) → (n ≡ 0 → ⊥) → r ≡ madeBalance x → Enters name b g (entry (Balance x) d r) c h → Follows sheet name a f (counted 2 (drop (a .at) sheet) (oneSection x d)) (Way.To c) h
+      unfolding oneSection
       section-made r c h z k y =
-          rw (counted-by 2 (drop (a .at) sheet) (sectionOf x d), ← e, i, drop-drop 2 (a .at) sheet, ne-eqb n 0 z)
+          rw (counted-by 2 (drop (a .at) sheet) (oneSection x d), ← e, i, drop-drop 2 (a .at) sheet, ne-eqb n 0 z)
           (made-behind 2 (linesFrom x d n (drop (a .at + 2) sheet)) b g (entry (Balance x) d (madeBalance x)) c h (lit≤ tt) told (rw k at y))
 
 -- What stands in a delega behind its record 10, and behind its record 20.
@@ -169,8 +169,8 @@ afterTwenty d s = andThen (sectionsFrom d 5 0 s) (oneRecord Payment d)
 abbrev pub afterTen : ℕ → List ℕ → Reading
 afterTen d s = andThen (oneRecord Domicile d s) (afterTwenty d)
 
-pub delega-parts : (d : ℕ) (s : List ℕ) → delegaOf d s ≡ andThen (oneRecord Taxpayer d s) (afterTen d)
-unfolding delegaOf
+pub delega-parts : (d : ℕ) (s : List ℕ) → oneDelega d s ≡ andThen (oneRecord Taxpayer d s) (afterTen d)
+unfolding oneDelega
 delega-parts d s = refl
 
 -- What stands in a sheet behind its head, and behind its deleghe.

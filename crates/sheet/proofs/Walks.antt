@@ -1,10 +1,11 @@
 -- Walks over the parts of a sheet, one behind the other: where the first ends the second begins, and what both write stands together.
-use Prim.Native.Nat.{ℕ, zero, suc, _+_, _-_, _*_, _≤_, _<_}
+use Prim.Native.Nat.{ℕ, suc, _+_, _*_, _≤_, _<_}
 use mathlib.Core.Path.{_≡_, refl, sym, ap, subst, _∙_}
-use mathlib.Core.List.{List, [], _∷_, _++_, append-assoc, append-nil}
+use mathlib.Core.List.{List, [], _∷_, _++_, append-assoc, append-nil, map-append}
 use native.Mathlib.Omega.{arith}
 use lib.ListN.{length, take, drop, length-append}
 use Rattle.rebalance.specs.Rebalance.{flat}
+use Rattle.rebalance.proofs.Flat.{flat-append}
 use Rattle.sheet.specs.declared.Misfit.{Misfit}
 use Rattle.sheet.specs.declared.Spot.{Spot}
 use Rattle.sheet.specs.declared.Walked.{Walked}
@@ -24,9 +25,8 @@ misfit-append name n (e ∷ es) fs m =
 
 -- The bytes of more records, behind those of the first.
 pub filled-append : (name : List ℕ) (es fs : List Entry) → flat (filledAll name (es ++ fs)) ≡ flat (filledAll name es) ++ flat (filledAll name fs)
-unfolding flat filledAll
-filled-append name [] fs = refl
-filled-append name (e ∷ es) fs = ap (λ (l : List ℕ). filled name e ++ l) (filled-append name es fs) ∙ sym (append-assoc (filled name e) (flat (filledAll name es)) (flat (filledAll name fs)))
+unfolding filledAll
+filled-append name es fs = rw map-append (flat-append (filledAll name es) (filledAll name fs))
 
 module _ (sheet name : List ℕ) where
   -- At the spot itself nothing lies between.

@@ -1,10 +1,10 @@
 -- What the parts of a record are after they are written: the digits of a subtype, the type and subtype of a made record, the number of a delega.
-use Prim.Native.Nat.{ℕ, zero, suc, _+_, _*_, _^_, _<_, _≤_}
+use Prim.Native.Nat.{ℕ, zero, suc, _+_, _*_, _<_, _≤_}
 use mathlib.Core.Path.{_≡_, refl, sym, ap, _∙_}
 use mathlib.Core.List.{List, [], _∷_, _++_, append-assoc}
 use native.Mathlib.Omega.{arith}
 use lib.Dec.{lit≤}
-use mathlib.Core.Bool.{Bool, true, false, cond}
+use mathlib.Core.Bool.{Bool, true, false}
 use types.Run.{OneOf, miss}
 use denote.Enum.Declared.{tagOf}
 use Rattle.layout.proofs.Kind.{the-type}
@@ -16,7 +16,7 @@ use Rattle.rules.specs.State.{noSums, zeroSections, startState}
 use Rattle.rules.specs.Stored.{storedOf, storedSection}
 use Rattle.amounts.specs.declared.Sums.{Sums}
 use Rattle.amounts.specs.Names.{sameBytes}
-use Rattle.amounts.specs.Amounts.{apart, signOf, finalOf}
+use Rattle.amounts.specs.Amounts.{apart, finalOf}
 use Rattle.rebalance.specs.Rebalance.{putAll, fitsAll}
 use Rattle.layout.specs.declared.Section.{Section}
 use Rattle.text.specs.declared.Digits.the-variants.{TooLong}
@@ -29,27 +29,12 @@ use Rattle.sheet.specs.Walk.{countAt, orMisfit, Enters}
 use Rattle.sheet.specs.Sheet.{Entry, entry}
 use Rattle.sheet.specs.Filled.{isTail, withNumber, withName, filled}
 use lib.ListN.{length, take, drop, replicate, length-append, getD}
-use lib.Seq.{take-all, take-at, length-take-le}
+use lib.Seq.{take-at, length-take-le}
 use Rattle.text.specs.Numbers.{digitsOf}
 use Rattle.text.specs.Placing.{putAt, partBytes, numberBytes}
 use Rattle.text.proofs.Numerals.{length-digits}
-use Rattle.text.proofs.Puts.{length-put, put-here, put-is}
-use Rattle.text.proofs.Fits.{part-fits, part-written, number-fits, number-written}
-
--- A part that lies within the room is put there.
-pub part-put : (s : ℕ) (bs r l : List ℕ) → s + length bs ≤ length r → l ≡ partBytes s bs r → l ≡ putAt s bs r
-part-put s bs r l h e = e ∙ part-written s bs r (part-fits s (length bs) (length r) h) .1
-
--- A number that has its digits within the room is put there.
-pub number-put : (s w n : ℕ) (r l : List ℕ) → s + w ≤ length r → n < 10 ^ w → l ≡ numberBytes s w n r → l ≡ putAt s (digitsOf w n) r
-number-put s w n r l h k e = e ∙ number-written s w n r (number-fits s w n (length r) h k) .1
-
--- Bytes put over all of a room are those bytes.
-pub put-whole : (bs r : List ℕ) → length bs ≡ length r → putAt 0 bs r ≡ bs
-put-whole bs r e =
-    let g : 0 + length bs ≤ length r = omega arith in
-    let n = length-put 0 bs r g in
-    sym (take-all (length bs) (putAt 0 bs r) (omega arith)) ∙ put-here 0 bs r g (length bs) refl
+use Rattle.text.proofs.Puts.{length-put, put-whole, put-is}
+use Rattle.text.proofs.Fits.{part-put, number-put}
 
 -- Two digits written into room for two.
 pub two-digits : (n : ℕ) (l : List ℕ) → n < 100 → l ≡ numberBytes 0 2 n (replicate 2 0) → l ≡ digitsOf 2 n
@@ -135,10 +120,6 @@ subtype-by n r x e = e ∙ rw (length-digits 2 n)
 pub filled-by : (name keyed a b c l : List ℕ) (slot : Kind) (d : ℕ) (st : State) → a ≡ keyed → b ≡ withNumber slot d a → c ≡ withName slot name b → st ≡ startState → l ≡ putAll (storedOf st slot) c → l ≡ filled name (entry slot d keyed)
 unfolding filled
 filled-by name keyed a b c l slot d st e1 e2 e3 e4 e5 = e5 ∙ rw (e4, e3, e2, e1)
-
--- A record copied into room for one.
-pub copied : (bs l : List ℕ) → length bs ≡ 120 → l ≡ partBytes 0 bs (replicate 120 0) → l ≡ bs
-copied bs l h e = part-put 0 bs (replicate 120 0) l (omega arith) e ∙ put-whole bs (replicate 120 0) h
 
 -- The balance record of section x made step by step.
 pub made-by : (x : ℕ) (y : Section) (a b : List ℕ) → y ≡ sectionAt x → a ≡ partBytes 1 (52 ∷ 48 ∷ []) (replicate 120 32) → b ≡ numberBytes 10 2 (y .«balance_subtype») a → b ≡ madeBalance x

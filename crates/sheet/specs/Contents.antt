@@ -10,8 +10,7 @@ use Rattle.layout.specs.declared.RecordType.{RecordType}
 use Rattle.layout.specs.declared.RecordType.the-variants.{F4, T10, T20, T40, T50, EF}
 use Rattle.layout.specs.declared.Kind.{Kind}
 use Rattle.layout.specs.declared.Kind.the-variants.{Head, Taxpayer, Domicile, Line, Balance, Payment, Tail}
-use Rattle.layout.specs.Kinds.{typeIn, kindIn}
-use Rattle.layout.specs.Forms.{numbered}
+use Rattle.layout.specs.Kinds.{typeIn, kindIn, numbered}
 use Rattle.amounts.specs.declared.Outcome.{Outcome}
 use Rattle.amounts.specs.declared.Outcome.the-variants.{Pass, Fault}
 use Rattle.rules.specs.Step.{nextDeleghe}
@@ -67,6 +66,7 @@ sectionsText (rs ∷ rss) = digitsOf 2 (length rs) ++ (flat rs ++ sectionsText r
 abbrev pub delegaText : Delega → List ℕ
 delegaText g = g .ten ++ (g .twenty ++ (sectionsText (g .sections) ++ g .fifty))
 
+-- the texts of deleghe, one after the other
 unfoldable pub delegheText : List Delega → List ℕ
 delegheText [] = []
 delegheText (g ∷ gs) = delegaText g ++ delegheText gs

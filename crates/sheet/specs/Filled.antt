@@ -7,7 +7,7 @@ use Rattle.text.specs.Placing.{putAt}
 use Rattle.layout.specs.declared.Kind.{Kind}
 use Rattle.layout.specs.declared.Kind.the-variants.{Head, Taxpayer, Domicile, Line, Balance, Payment, Receipt, Addressee, Tail, Unknown}
 use Rattle.layout.specs.Sections.{at}
-use Rattle.layout.specs.Forms.{numbered}
+use Rattle.layout.specs.Kinds.{numbered}
 use Rattle.rules.specs.State.{startState}
 use Rattle.rules.specs.Stored.{storedOf}
 use Rattle.rebalance.specs.Rebalance.{putAll}

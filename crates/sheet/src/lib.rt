@@ -8,7 +8,7 @@ ghost use mathlib.Core.List.{_++_};
 ghost use lib.ListN.{length, take, drop};
 ghost use Rattle.layout.specs.Fields.{bytesOf, supportName};
 ghost use Rattle.sheet.specs.Slots.{slotFault};
-ghost use Rattle.sheet.specs.Sheet.{entry, oneRecord, counted, linesFrom, sectionOf, sectionsFrom, delegaOf, delegheFrom, sheetOf};
+ghost use Rattle.sheet.specs.Sheet.{entry, oneRecord, counted, linesFrom, oneSection, sectionsFrom, oneDelega, delegheFrom, sheetOf};
 ghost use Rattle.sheet.specs.Walk.{countAt, startSpot, beyondBy, orMisfit, Here, Enters, Follows};
 use amounts::Outcome;
 use layout::Flow;
@@ -136,7 +136,7 @@ fn count_at(sheet: &[u8], at: usize, width: usize) -> Digits
 // The count and the lines of section x, and the balance record behind them.
 fn section(sheet: &[u8], flow: &mut [u8], name: &[u8], spot: Spot, x: usize, d: u64) -> Walked
     requires { ⌜ Here (now sheet) spot (now flow) × (length (now name) ≡ 20) × (d < 10_000_000) ⌝ }
-    ensures { λ r. ⌜ Follows (now (sheet .entry)) (now (name .entry)) spot (now (flow .entry)) (counted 2 (drop (spot .at) (now (sheet .entry))) (sectionOf x d)) r (now (flow .exit)) ⌝ }
+    ensures { λ r. ⌜ Follows (now (sheet .entry)) (now (name .entry)) spot (now (flow .entry)) (counted 2 (drop (spot .at) (now (sheet .entry))) (oneSection x d)) r (now (flow .exit)) ⌝ }
 {
     let Digits::Number(n) = count_at(sheet, spot.at, 2) else {
         return Walked::NoSheet;
@@ -172,7 +172,7 @@ fn sections(sheet: &[u8], flow: &mut [u8], name: &[u8], spot: Spot, d: u64) -> W
 // One delega: its records 10 and 20, its sections, its 50-01.
 fn delega(sheet: &[u8], flow: &mut [u8], name: &[u8], spot: Spot, d: u64) -> Walked
     requires { ⌜ Here (now sheet) spot (now flow) × (length (now name) ≡ 20) × (d < 10_000_000) ⌝ }
-    ensures { λ r. ⌜ Follows (now (sheet .entry)) (now (name .entry)) spot (now (flow .entry)) (delegaOf d (drop (spot .at) (now (sheet .entry)))) r (now (flow .exit)) ⌝ }
+    ensures { λ r. ⌜ Follows (now (sheet .entry)) (now (name .entry)) spot (now (flow .entry)) (oneDelega d (drop (spot .at) (now (sheet .entry)))) r (now (flow .exit)) ⌝ }
 {
     let Walked::To(ten) = record(sheet, &mut *flow, name, spot, Kind::Taxpayer, d) else {
         return Walked::NoSheet;

@@ -1,13 +1,15 @@
 -- Laws of what fits a room: the sums behind the tests, and what a put answers and leaves by them.
 use Prim.Native.Nat.{ℕ, _+_, _^_, _<_, _≤_}
-use mathlib.Core.Path.{_≡_, refl}
+use mathlib.Core.Path.{_≡_, refl, sym, _∙_}
 use mathlib.Core.Bool.{Bool, true, false, cond, false≢true}
 use mathlib.Core.List.{List}
+use native.Mathlib.Omega.{arith}
 use borrow.Author.Tests.{le-leb, lt-leb, leb-true, lt-ltb, ltb-true}
 use lib.Dec.{ltb}
-use lib.ListN.{length}
+use lib.ListN.{length, replicate, length-replicate}
 use Rattle.text.specs.declared.Put.the-variants.{Written, Unfit}
 use Rattle.text.specs.Numbers.{digitsOf}
+use Rattle.text.proofs.Puts.{put-whole}
 use Rattle.text.specs.Placing.{putAt, partFits, numberFits, partAnswer, partBytes, numberAnswer, numberBytes}
 
 module _ (s w l : ℕ) where
@@ -72,3 +74,18 @@ module _ (s w n : ℕ) (r : List ℕ) where
   pub number-kept : numberFits s w n (length r) ≡ false → (numberAnswer s w n r ≡ Unfit) × (numberBytes s w n r ≡ r)
   unfolding numberAnswer numberBytes
   number-kept e = (rw e, rw e)
+
+-- A part that lies within the room is put there.
+pub part-put : (s : ℕ) (bs r l : List ℕ) → s + length bs ≤ length r → l ≡ partBytes s bs r → l ≡ putAt s bs r
+part-put s bs r l h e = e ∙ part-written s bs r (part-fits s (length bs) (length r) h) .1
+
+-- A number of at most w digits that lies within the room is put there.
+pub number-put : (s w n : ℕ) (r l : List ℕ) → s + w ≤ length r → n < 10 ^ w → l ≡ numberBytes s w n r → l ≡ putAt s (digitsOf w n) r
+number-put s w n r l h k e = e ∙ number-written s w n r (number-fits s w n (length r) h k) .1
+
+-- Bytes copied into room for as many are those bytes.
+pub copied : (n : ℕ) (bs l : List ℕ) → length bs ≡ n → l ≡ partBytes 0 bs (replicate n 0) → l ≡ bs
+copied n bs l h e =
+    let r : List ℕ = replicate n 0 in
+    let z : length r ≡ n = length-replicate n 0 in
+    part-put 0 bs r l (omega arith) e ∙ put-whole bs r (h ∙ sym z)

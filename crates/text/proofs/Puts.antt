@@ -4,7 +4,7 @@ use mathlib.Core.Path.{_≡_, refl, sym, ap, _∙_}
 use mathlib.Core.List.{List, _++_, append-assoc}
 use native.Mathlib.Omega.{arith}
 use lib.ListN.{length, take, drop, getD, length-append, length-drop, take-append-drop, List·getD-append}
-use lib.Seq.{length-take-le, drop-append-le, take-append-le, take-at, drop-at, getD-take, getD-drop, drop-drop}
+use lib.Seq.{take-all, length-take-le, drop-append-le, take-append-le, take-at, drop-at, getD-take, getD-drop, drop-drop}
 use Rattle.text.specs.declared.Characters.the-variants.{Allowed}
 use Rattle.text.specs.Characters.{firstBad}
 use Rattle.text.specs.Placing.{putAt}
@@ -90,6 +90,13 @@ put-left s bs x y h = rw (take-append-le s x y (omega arith), drop-append-le (s 
 pub put-is : (s : ℕ) (bs r : List ℕ) → putAt s bs r ≡ take s r ++ (bs ++ drop (s + length bs) r)
 unfolding putAt
 put-is s bs r = refl
+
+-- Bytes put over all of a room are those bytes.
+pub put-whole : (bs r : List ℕ) → length bs ≡ length r → putAt 0 bs r ≡ bs
+put-whole bs r e =
+    let g : 0 + length bs ≤ length r = omega arith in
+    let n = length-put 0 bs r g in
+    sym (take-all (length bs) (putAt 0 bs r) (omega arith)) ∙ put-here 0 bs r g (length bs) refl
 
 -- Puts at places that do not overlap may go in either order.
 pub puts-commute : (s : ℕ) (bs : List ℕ) (t : ℕ) (cs r : List ℕ) → s + length bs ≤ t → t + length cs ≤ length r → putAt s bs (putAt t cs r) ≡ putAt t cs (putAt s bs r)

@@ -16,8 +16,8 @@ use Rattle.layout.specs.declared.Field.{Field}
 use Rattle.rules.specs.Stored.{Stored}
 use Rattle.rebalance.specs.Rebalance.{putAll, clear, startOf, widthOf, textOf}
 use Rattle.rebalance.proofs.Written.{byte-of, both-true, laid, length-text, length-putAll, putAll-clear}
-use Rattle.write.specs.Effect.{inColumns}
-use Rattle.write.proofs.OutsideColumns.{Off, off-all, put-off, Covers, covers-clear}
+use Rattle.rebalance.specs.Places.{inColumns}
+use Rattle.rebalance.proofs.Outside.{Beside, off-all, put-off, Covers, covers-clear}
 
 -- Two records of 120 bytes are alike outside these columns.
 pub record Alike (fs : List Field) (r q : List ℕ) : Type 0 where
@@ -39,7 +39,7 @@ alike-put f fs bs {r} {q} e h a =
     let v : f .start + length bs ≤ length q = omega arith in
     record { one = length-put (f .start) bs r u ∙ l; other = length-put (f .start) bs q v ∙ m; same = λ i z. go l m u v i z (decLt i (f .start)) (decLt i (f .end)) }
   where
-    off : length r ≡ 120 → length q ≡ 120 → (i : ℕ) → inColumns i fs ≡ false → Off i f → getD (putAt (f .start) bs r) i 0 ≡ getD (putAt (f .start) bs q) i 0
+    off : length r ≡ 120 → length q ≡ 120 → (i : ℕ) → inColumns i fs ≡ false → Beside i f → getD (putAt (f .start) bs r) i 0 ≡ getD (putAt (f .start) bs q) i 0
     off l m i z o = put-off f bs r e (omega arith) i o ∙ (a .same i (off-all i f fs o z) ∙ sym (put-off f bs q e (omega arith) i o))
 
     go : length r ≡ 120 → length q ≡ 120 → f .start + length bs ≤ length r → f .start + length bs ≤ length q → (i : ℕ) → inColumns i fs ≡ false → Dec (i < f .start) → Dec (i < f .end) → getD (putAt (f .start) bs r) i 0 ≡ getD (putAt (f .start) bs q) i 0

@@ -1,7 +1,7 @@
 -- The fault of a record to be written is the judge's own, of the record as it would be written: every filled field is taken as right.
 use Prim.Native.Nat.{ℕ}
 use mathlib.Core.Path.{_≡_, refl, ap, _∙_}
-use mathlib.Core.Bool.{true}
+use mathlib.Core.Bool.{Bool, true, false}
 use mathlib.Core.List.{List}
 use lib.ListN.{length}
 use Rattle.text.specs.declared.Characters.{Characters}
@@ -29,7 +29,7 @@ use Rattle.sheet.specs.Slots.{slotFault}
 use Rattle.sheet.specs.Sheet.{Entry}
 use Rattle.sheet.specs.Filled.{filled}
 use Rattle.write.specs.Writing.{entryFault}
-use Rattle.write.specs.WhenRefused.{EntrySays, BadCharacter, OutOfSlot, AsWritten}
+use Rattle.write.specs.WhenRefused.{EntrySays, BadCharacter, OutOfSlot, AsWritten, Unstorable}
 use Rattle.write.proofs.OtherState.{kept-emit}
 
 -- A non-digit in the delega number is told first; else the other fields decide.
@@ -68,14 +68,15 @@ module _ (name : List ℕ) (st : State) (r : List ℕ) (l : length r ≡ 120) (c
       rw (emit-type st r l, emit-kind st r l, emit-number st r l, characters, c, d, k .own, w, first-none (ownFault name st (kindIn r) r))
 
 -- What is said of a record to be written: 3 by its characters, then 4 by its slot, then what the judge says of it as it would be written.
-pub entry-says : (name : List ℕ) (st : State) (e : Entry) → length (filled name e) ≡ 120 → fitsAll (storedOf st (kindIn (filled name e))) ≡ true → EntrySays name st e (entryFault name st e)
+pub entry-says : (name : List ℕ) (st : State) (e : Entry) → length (filled name e) ≡ 120 → EntrySays name st e (entryFault name st e)
 unfolding entryFault
-entry-says name st e l f = go (firstBad r) (slotFault (e .slot) r) refl refl
+entry-says name st e l = go (firstBad r) (slotFault (e .slot) r) (fitsAll (storedOf st (kindIn r))) refl refl refl
   where
     r : List ℕ
     r = filled name e
 
-    go : (c : Characters) (o : Outcome) → firstBad r ≡ c → slotFault (e .slot) r ≡ o → EntrySays name st e (first (charFault c) (first o (keptFault name st r)))
-    go (BadAt i) o p q = BadCharacter p
-    go Allowed (Fault n m) p q = OutOfSlot p q
-    go Allowed Pass p q = rw (kept-as-judged name st r l p f) (AsWritten p q)
+    go : (c : Characters) (o : Outcome) (f : Bool) → firstBad r ≡ c → slotFault (e .slot) r ≡ o → fitsAll (storedOf st (kindIn r)) ≡ f → EntrySays name st e (first (charFault c) (first o (keptFault name st r)))
+    go (BadAt i) o f p q w = BadCharacter p
+    go Allowed (Fault n m) f p q w = OutOfSlot p q
+    go Allowed Pass true p q w = rw (kept-as-judged name st r l p w) (AsWritten p q w)
+    go Allowed Pass false p q w = Unstorable p q w

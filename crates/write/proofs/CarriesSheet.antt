@@ -12,9 +12,8 @@ use Rattle.text.proofs.Puts.{length-put}
 use Rattle.layout.specs.declared.Kind.{Kind}
 use Rattle.layout.specs.declared.Kind.the-variants.{Balance, Tail}
 use Rattle.layout.specs.Sections.{sectionAt}
-use Rattle.layout.specs.Kinds.{kindIn}
+use Rattle.layout.specs.Kinds.{kindIn, numbered}
 use Rattle.layout.specs.Fields.{delegaNumber, tailDeleghe, tailSum, tailRecords, supportName}
-use Rattle.layout.specs.Forms.{numbered}
 use Rattle.rules.specs.declared.State.{State}
 use Rattle.rules.specs.State.{startState}
 use Rattle.rules.specs.Stored.{storedOf}
@@ -33,16 +32,18 @@ use Rattle.sheet.proofs.FilledRecords.{slot-laid, length-number, length-name, l
 use Rattle.write.specs.declared.Writing.the-variants.{Written}
 use Rattle.write.specs.Writing.{nameIn, writingOf, flowOf}
 use Rattle.write.specs.WhenRefused.{entriesIn, NoEntryFault, MayBeWritten}
-use Rattle.write.specs.Effect.{inColumns, filledColumns, entryAt, Carries, madeColumns}
+use Rattle.rebalance.specs.Places.{inColumns}
+use Rattle.write.specs.Effect.{filledColumns, entryAt, Carries, madeColumns}
 use Rattle.write.proofs.Refusals.{written-exactly}
 use Rattle.write.proofs.Mended.{passes-kind}
 use Rattle.write.proofs.WrittenFlow.{length-filled-all, entries-in, name-length, records-written}
-use Rattle.write.proofs.OutsideColumns.{Off, outside, put-off, swapped, covers-clear, slotStored, slot-covers}
+use Rattle.rebalance.proofs.Outside.{Beside, outside, put-off, swapped, covers-clear}
+use Rattle.write.proofs.SlotColumns.{slotStored, slot-covers}
 
 -- An index of a slot that is not filled lies outside the number, the name and the stored fields.
 record Spared (k : Kind) (i : ℕ) : Type 0 where
-  number : numbered k ≡ true → Off i delegaNumber
-  name : isTail k ≡ true → Off i supportName
+  number : numbered k ≡ true → Beside i delegaNumber
+  name : isTail k ≡ true → Beside i supportName
   stored : (st : State) → clear i 1 (storedOf st k) ≡ true
 
 -- So it is in a slot that has a number.
@@ -66,20 +67,20 @@ spared In.tail i h =
 -- A record of 120 bytes, and a byte of it that is not filled.
 module _ (k : Kind) (r : List ℕ) (l : length r ≡ 120) (i : ℕ) where
   -- The delega number leaves it.
-  number-byte : (d : ℕ) → (numbered k ≡ true → Off i delegaNumber) → getD (withNumber k d r) i 0 ≡ getD r i 0
+  number-byte : (d : ℕ) → (numbered k ≡ true → Beside i delegaNumber) → getD (withNumber k d r) i 0 ≡ getD r i 0
   unfolding withNumber
   number-byte d o = go (numbered k) o
     where
-      go : (t : Bool) → (t ≡ true → Off i delegaNumber) → getD (cond t (putAt 3 (digitsOf 7 d) r) r) i 0 ≡ getD r i 0
+      go : (t : Bool) → (t ≡ true → Beside i delegaNumber) → getD (cond t (putAt 3 (digitsOf 7 d) r) r) i 0 ≡ getD r i 0
       go true o = put-off delegaNumber (digitsOf 7 d) r (rw (length-digits 7 d)) (omega arith) i (o refl)
       go false o = refl
 
   -- The name leaves it.
-  name-byte : (name : List ℕ) → length name ≡ 20 → (isTail k ≡ true → Off i supportName) → getD (withName k name r) i 0 ≡ getD r i 0
+  name-byte : (name : List ℕ) → length name ≡ 20 → (isTail k ≡ true → Beside i supportName) → getD (withName k name r) i 0 ≡ getD r i 0
   unfolding withName
   name-byte name n o = go (isTail k) o
     where
-      go : (t : Bool) → (t ≡ true → Off i supportName) → getD (cond t (putAt 19 name r) r) i 0 ≡ getD r i 0
+      go : (t : Bool) → (t ≡ true → Beside i supportName) → getD (cond t (putAt 19 name r) r) i 0 ≡ getD r i 0
       go true o = put-off supportName name r (rw n) (omega arith) i (o refl)
       go false o = refl
 

@@ -13,9 +13,8 @@ use Rattle.text.proofs.Bytes.{part-length}
 use Rattle.text.proofs.Puts.{put-same}
 use Rattle.layout.specs.declared.Field.{Field}
 use Rattle.layout.specs.declared.Kind.{Kind}
-use Rattle.layout.specs.Kinds.{kindIn}
+use Rattle.layout.specs.Kinds.{kindIn, numbered}
 use Rattle.layout.specs.Fields.{delegaNumber, finalBalance, tailDeleghe, tailSum, tailRecords, supportName, bytesOf, valueOf}
-use Rattle.layout.specs.Forms.{numbered}
 use Rattle.amounts.specs.declared.Outcome.{Outcome}
 use Rattle.amounts.specs.declared.Outcome.the-variants.{Pass}
 use Rattle.amounts.specs.Names.{sameBytes}
@@ -32,10 +31,12 @@ use Rattle.sheet.specs.Sheet.{entry}
 use Rattle.sheet.specs.Filled.{withNumber, isTail, withName, filled}
 use Rattle.sheet.specs.Contents as In
 use Rattle.sheet.specs.Contents.{Slot}
-use Rattle.sheet.proofs.SlotKinds.{same-bytes}
+use Rattle.sheet.proofs.SlotPassed.{same-bytes}
 use Rattle.sheet.proofs.FilledRecords.{slot-laid}
-use Rattle.write.specs.Effect.{balanceColumns, filledColumns}
-use Rattle.write.proofs.OutsideColumns.{swapped, slotStored, slot-covers}
+use Rattle.rebalance.specs.Places.{balanceColumns}
+use Rattle.write.specs.Effect.{filledColumns}
+use Rattle.rebalance.proofs.Outside.{swapped}
+use Rattle.write.proofs.SlotColumns.{slotStored, slot-covers}
 use Rattle.write.proofs.Alike.{Alike, alike-put, alike-stored}
 
 -- A name of 20 characters, and records that are alike outside the filled columns.

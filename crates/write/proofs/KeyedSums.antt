@@ -12,9 +12,8 @@ use Rattle.text.proofs.Numerals.{length-digits}
 use Rattle.text.proofs.Puts.{put-after}
 use Rattle.layout.specs.declared.Kind.{Kind}
 use Rattle.layout.specs.declared.Kind.the-variants.{Line}
-use Rattle.layout.specs.Kinds.{ofLine, kindIn}
+use Rattle.layout.specs.Kinds.{ofLine, kindIn, numbered}
 use Rattle.layout.specs.Fields.{valueOf}
-use Rattle.layout.specs.Forms.{numbered}
 use Rattle.layout.proofs.Table.{row-rule}
 use Rattle.rules.specs.declared.State.{State}
 use Rattle.rules.specs.State.{noSums, startState}

@@ -5,7 +5,7 @@ pub mod OneAnswer
 pub mod Mended
 pub mod WrittenFlow
 pub mod KeyedSums
-pub mod OutsideColumns
+pub mod SlotColumns
 pub mod CarriesSheet
 pub mod NeverEight
 pub mod Alike

@@ -21,7 +21,7 @@ use Rattle.sheet.specs.Slots.{slotFault}
 use Rattle.sheet.specs.Sheet.{Entry}
 use Rattle.sheet.specs.Filled.{filled, filledAll}
 use Rattle.sheet.specs.Contents.{All, Entered, Numbering}
-use Rattle.sheet.proofs.SlotKinds.{slot-kind}
+use Rattle.sheet.proofs.SlotPassed.{slot-kind}
 use Rattle.sheet.proofs.FilledRecords.{length-filled}
 use Rattle.write.specs.Writing.{entryFault}
 use Rattle.write.specs.WhenRefused.{NoEntryFault}

@@ -12,9 +12,8 @@ use Rattle.text.proofs.Numerals.{number-digits, length-digits}
 use Rattle.text.proofs.Puts.{length-put, put-here, put-before}
 use Rattle.layout.specs.declared.Kind.{Kind}
 use Rattle.layout.specs.declared.Kind.the-variants.{Head, Taxpayer, Domicile, Line, Balance, Payment, Receipt, Addressee, Tail, Unknown}
-use Rattle.layout.specs.Kinds.{kindIn}
+use Rattle.layout.specs.Kinds.{kindIn, numbered}
 use Rattle.layout.specs.Fields.{delegaNumber, supportName, bytesOf, valueOf}
-use Rattle.layout.specs.Forms.{numbered}
 use Rattle.amounts.specs.declared.Outcome.the-variants.{Pass}
 use Rattle.order.specs.Order.{among}
 use Rattle.rules.specs.declared.State.{State}
@@ -31,8 +30,8 @@ use Rattle.sheet.specs.Slots.{slotFault}
 use Rattle.sheet.specs.Sheet.{Entry, entry}
 use Rattle.sheet.specs.Filled.{withNumber, isTail, withName, filled, filledAll}
 use Rattle.sheet.specs.Contents.{tail, All, Entered, Numbering}
-use Rattle.sheet.proofs.SlotKinds.{slot-kind}
-use Rattle.sheet.proofs.KindSlots.{same-itself}
+use Rattle.sheet.proofs.SlotPassed.{slot-kind}
+use Rattle.sheet.proofs.SlotExactly.{same-itself}
 use Rattle.sheet.proofs.FilledRecords.{slot-storing, slot-laid, length-number, length-name}
 use Rattle.write.specs.declared.Writing.the-variants.{Refused}
 use Rattle.write.specs.Writing.{nameIn, entryFault, writingOf}

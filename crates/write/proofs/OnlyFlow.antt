@@ -9,8 +9,7 @@ use lib.ListN.{length, getD, take, drop, take-append-drop}
 use lib.Seq.{ext-getD, length-take-le}
 use Rattle.text.specs.Numbers.{digitsOf}
 use Rattle.layout.specs.declared.Kind.the-variants.{Head}
-use Rattle.layout.specs.Kinds.{kindIn}
-use Rattle.layout.specs.Forms.{numbered}
+use Rattle.layout.specs.Kinds.{kindIn, numbered}
 use Rattle.amounts.specs.declared.Outcome.the-variants.{Pass}
 use Rattle.rules.specs.declared.State.{State}
 use Rattle.rules.specs.State.{startState}
@@ -27,11 +26,12 @@ use Rattle.rebalance.proofs.Judged.{sized-records, flat-records}
 use Rattle.sheet.specs.Sheet.{Entry, entry}
 use Rattle.sheet.specs.Filled.{filled, filledAll}
 use Rattle.sheet.specs.Contents.{All, Entered, IsSheet, Numbering, countIn}
-use Rattle.sheet.proofs.KindSlots.{slot-exactly}
+use Rattle.sheet.proofs.SlotExactly.{slot-exactly}
 use Rattle.write.specs.declared.Writing.the-variants.{Written}
 use Rattle.write.specs.Writing.{nameIn, entryFault, writingOf, flowOf}
 use Rattle.write.specs.WhenRefused.{entriesIn, NoEntryFault, MayBeWritten}
-use Rattle.write.specs.Effect.{inColumns, filledColumns, entryAt, Carries, Demanded}
+use Rattle.rebalance.specs.Places.{inColumns}
+use Rattle.write.specs.Effect.{filledColumns, entryAt, Carries, Demanded}
 use Rattle.write.proofs.Refusals.{written-exactly}
 use Rattle.write.proofs.WrittenFlow.{entries-in, name-length, length-written, written-length, written-accepted}
 use Rattle.write.proofs.CarriesSheet.{written-carries}

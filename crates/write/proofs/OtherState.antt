@@ -1,48 +1,31 @@
 -- A record that is rebalanced after one state and looked at after another: what it was filled with first is of no matter.
 use Prim.Native.Nat.{ℕ}
-use mathlib.Core.Path.{_≡_, refl, ap, _∙_}
-use mathlib.Core.Bool.{true}
+use mathlib.Core.Path.{_≡_, ap, _∙_}
 use mathlib.Core.List.{List, []}
-use lib.ListN.{length, take, drop}
+use lib.ListN.{length}
 use Rattle.text.specs.declared.Characters.the-variants.{Allowed}
 use Rattle.text.specs.Characters.{firstBad}
-use Rattle.text.specs.Numbers.{numberOf}
 use Rattle.layout.specs.declared.Kind.{Kind}
-use Rattle.layout.specs.declared.Kind.the-variants.{Balance}
 use Rattle.layout.specs.Kinds.{kindIn}
-use Rattle.layout.specs.Fields.{delegaNumber}
 use Rattle.amounts.specs.declared.Outcome.the-variants.{Pass}
 use Rattle.rules.specs.declared.State.{State}
 use Rattle.rules.specs.Stored.{storedOf}
-use Rattle.rules.specs.Checks.{charFault, orBad, badFields, tailName, ownFault}
-use Rattle.rules.specs.Step.{lineSums, next}
-use Rattle.rebalance.specs.Rebalance.{emit, clear, keptFields, keptFault}
+use Rattle.rules.specs.Checks.{charFault}
+use Rattle.rules.specs.Step.{next}
+use Rattle.rebalance.specs.Rebalance.{emit, keptFault}
 use Rattle.rebalance.proofs.Written.{putAll-allowed}
-use Rattle.rebalance.proofs.Columns.{Storing, plain, balance, payment, tail, storing, columns, printable-stored}
-use Rattle.rebalance.proofs.Emit.{allowed-of, kept-each, kept-all, emit-plain, emit-part, emit-type, emit-kind, emit-number}
+use Rattle.rebalance.proofs.Columns.{storing, columns, printable-stored}
+use Rattle.rebalance.proofs.Emit.{Kept, kept, allowed-of, kept-each, kept-all, emit-part, emit-type, emit-kind, emit-number}
 use Rattle.sheet.specs.Contents.{Slot}
 use Rattle.sheet.proofs.FilledRecords.{slot-laid}
-use Rattle.write.proofs.OutsideColumns.{slotStored, slot-covers}
+use Rattle.write.proofs.SlotColumns.{slotStored, slot-covers}
 use Rattle.write.proofs.Alike.{stored-over}
-
--- What the checks that rebalancing leaves alone and the next state read of a record is the same in another.
-pub record Kept (name : List ℕ) (st : State) (k : Kind) (r out : List ℕ) : Type 0 where
-  pub fields : badFields (keptFields k) out ≡ badFields (keptFields k) r
-  pub own : ownFault name st k out ≡ ownFault name st k r
-  pub sums : lineSums k out ≡ lineSums k r
-
--- Writing stored fields, after whatever state, leaves that.
-kept-stored : (s : State) {k : Kind} → Storing s k → (name : List ℕ) (st : State) (r out : List ℕ) → (storedOf s k ≡ [] → out ≡ r) → ((m n : ℕ) → clear m n (storedOf s k) ≡ true → take n (drop m out) ≡ take n (drop m r)) → Kept name st k r out
-unfolding badFields clear
-kept-stored s (plain e f) name st r out z part = rw (z e) (record { fields = refl; own = refl; sums = refl })
-kept-stored s (balance x h) name st r out z part = record { fields = ap (λ (b : List ℕ). orBad (numberOf b) delegaNumber Pass) (part 3 7 (columns {st = s} {k = Balance x} (balance x h) .delega-number)); own = refl; sums = refl }
-kept-stored s payment name st r out z part = record { fields = ap (λ (b : List ℕ). orBad (numberOf b) delegaNumber Pass) (part 3 7 refl); own = refl; sums = refl }
-kept-stored s tail name st r out z part = record { fields = refl; own = ap (tailName name) (part 19 20 refl); sums = refl }
 
 -- A record of 120 bytes, rebalanced after one state and looked at after another.
 module _ (s st : State) (r : List ℕ) (l : length r ≡ 120) where
   pub kept-emit : (name : List ℕ) → Kept name st (kindIn r) r (emit s r)
-  kept-emit name = kept-stored s (storing s r) name st r (emit s r) (emit-plain s r) (emit-part s r l)
+  unfolding emit
+  kept-emit name = kept (storing s r) (columns (storing s r)) name st r (emit-part s r l)
 
   -- The next state is the same.
   pub next-other : next st (emit s r) ≡ next st r

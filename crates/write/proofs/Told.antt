@@ -1,16 +1,15 @@
 -- What the walk over a sheet tells: that it is none, how many records are to be written, and the flow that they make.
-use Prim.Native.Nat.{ℕ, _+_, _*_, _/_, _%_, _≤_, _<_}
+use Prim.Native.Nat.{ℕ, _+_, _*_, _/_, _≤_, _<_}
 use mathlib.Core.Path.{_≡_, refl, sym, ap, subst, _∙_}
-use mathlib.Core.Bool.{true, false, cond}
-use mathlib.Core.List.{List, [], _∷_, _++_}
+use mathlib.Core.List.{List}
 use native.Mathlib.Omega.{arith}
 use borrow.Author.Tests.{lt-ltb, le-ltb, eq-eqb}
-use lib.ListN.{length, take, drop}
+use lib.ListN.{length, take}
 use Rattle.rules.specs.State.{startState}
 use Rattle.order.specs.Stages.{afterTail}
 use Rattle.judge.specs.Flow.{recordsOf, headNameOf}
 use Rattle.judge.specs.Plain.{Whole, stateAfter}
-use Rattle.rebalance.specs.Rebalance.{rebalanced, allFit, flat, Sized}
+use Rattle.rebalance.specs.Rebalance.{rebalanced, flat}
 use Rattle.rebalance.proofs.Flat.{length-flat, records-flat}
 use Rattle.lenient.specs.declared.Lenient.{Lenient}
 use Rattle.lenient.specs.declared.Lenient.the-variants as Kept
@@ -27,8 +26,8 @@ use Rattle.sheet.specs.Contents.{IsSheet, All, Entered}
 use Rattle.sheet.proofs.SaidBySheet.{sheet-said}
 use Rattle.sheet.proofs.EntriesRead.{Entries}
 use Rattle.write.specs.declared.Writing.{Writing}
-use Rattle.write.specs.declared.Writing.the-variants.{Written, Refused}
-use Rattle.write.specs.Writing.{nameIn, entriesFault, afterFaults, triedIn, answerTo, writingOf, entriesRead, flowOf, roomWith, roomAfter}
+use Rattle.write.specs.declared.Writing.the-variants.{Refused}
+use Rattle.write.specs.Writing.{nameIn, entriesFault, triedIn, answerTo, writingOf, entriesRead, flowOf, roomWith, roomAfter}
 use Rattle.write.specs.Settling.{settledOf}
 use Rattle.write.specs.WhenRefused.{entriesIn, NoEntryFault}
 use Rattle.write.proofs.FirstEntry.{each-passes}

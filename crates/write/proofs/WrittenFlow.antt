@@ -7,7 +7,7 @@ use lib.ListN.{length, take, drop, length-append, length-map, length-drop, take-
 use lib.Seq.{take-at, drop-at, length-take-le}
 use Rattle.text.proofs.Bytes.{part-length}
 use Rattle.layout.specs.declared.Kind.the-variants.{Head, Tail}
-use Rattle.layout.specs.Forms.{numbered}
+use Rattle.layout.specs.Kinds.{numbered}
 use Rattle.rules.specs.State.{startState}
 use Rattle.judge.specs.declared.Verdict.the-variants.{Accepted}
 use Rattle.judge.specs.declared.Judgement.{Judgement}

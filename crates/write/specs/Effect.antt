@@ -1,19 +1,19 @@
 -- For theorems. What the flow written from a sheet is measured by: sums of amounts as they are keyed, and the columns that are filled.
 use Prim.Native.Nat.{ℕ, _+_, _≤_, _<_}
 use mathlib.Core.Path.{_≡_}
-use mathlib.Core.Bool.{Bool, true, false, cond}
+use mathlib.Core.Bool.{false, cond}
 use mathlib.Core.List.{List, [], _∷_}
-use lib.Dec.{eqb, ltb, leb}
+use lib.Dec.{eqb}
 use lib.ListN.{length, getD}
 use Rattle.layout.specs.declared.Field.{Field}
 use Rattle.layout.specs.declared.Kind.{Kind}
 use Rattle.layout.specs.declared.Kind.the-variants.{Head, Taxpayer, Domicile, Line, Balance, Payment, Receipt, Addressee, Tail, Unknown}
-use Rattle.layout.specs.Sections.{sectionAt}
 use Rattle.layout.specs.Kinds.{ofLine, kindIn}
-use Rattle.layout.specs.Fields.{columns, amountAt, valueOf}
+use Rattle.layout.specs.Fields.{columns, valueOf}
 use Rattle.judge.specs.declared.Verdict.the-variants.{Accepted}
 use Rattle.judge.specs.Flow.{recordsOf, judged}
 use Rattle.judge.specs.Plain.{Side, columnOf}
+use Rattle.rebalance.specs.Places.{inColumns, balanceColumns}
 use Rattle.sheet.specs.Sheet.{Entry, entry}
 use Rattle.sheet.specs.Contents.{IsSheet}
 use Rattle.write.specs.WhenRefused.{entriesIn}
@@ -30,18 +30,6 @@ keyedIn x i es = keyedOver (λ s r. cond (eqb s i) (valueOf r (columnOf x i)) 0)
 -- One side of all lines, added up.
 abbrev pub keyedAll : Side → List Entry → ℕ
 keyedAll x es = keyedOver (λ s r. valueOf r (columnOf x s)) es
-
--- An index of a record lies in one of these fields.
-unfoldable pub inColumns : ℕ → List Field → Bool
-inColumns i [] = false
-inColumns i (f ∷ fs) = cond (cond (leb (f .start) i) (ltb i (f .end)) false) true (inColumns i fs)
-
--- The sign and the balance of a balance record, and its totals where it has some.
-abbrev pub signAndBalance : ℕ → List Field
-signAndBalance x = record { start = sectionAt x .sign; end = sectionAt x .sign + 1 } ∷ amountAt (sectionAt x .balance) ∷ []
-
-abbrev pub balanceColumns : ℕ → List Field
-balanceColumns x = cond (sectionAt x .totals) (amountAt (sectionAt x .«total_debit») ∷ amountAt (sectionAt x .«total_credit») ∷ signAndBalance x) (signAndBalance x)
 
 -- The writer "fills delega numbers, final balances and the tail's name, counts and sum", and in a balance record that it makes totals, sign and balance: the columns by slot.
 abbrev pub filledColumns : Kind → List Field

@@ -14,7 +14,9 @@ use Rattle.rules.specs.Checks.{fault}
 use Rattle.rules.specs.Step.{next}
 use Rattle.judge.specs.Refusal.{Refusal, refusal}
 use Rattle.judge.specs.Plain.{stateAfter}
-use Rattle.rebalance.specs.Rebalance.{emit, allFit}
+use Rattle.layout.specs.Kinds.{kindIn}
+use Rattle.rules.specs.Stored.{storedOf}
+use Rattle.rebalance.specs.Rebalance.{emit, fitsAll, allFit, keptFault}
 use Rattle.sheet.specs.Slots.{slotFault}
 use Rattle.sheet.specs.Sheet.{Entry, sheetOf}
 use Rattle.sheet.specs.Filled.{filled, filledAll}
@@ -25,11 +27,13 @@ use Rattle.write.specs.Writing.{nameIn, entryFault, entriesRead}
 abbrev pub entriesIn : List ℕ → List Entry
 entriesIn sheet = entriesRead (sheetOf sheet)
 
--- "01's first fault, in the records to be written, with every filled field taken as right and 4 for a record not of its slot's kind": what is said of one record, after a state.
+-- "01's first fault, in the records to be written, with every filled field taken as right and 4 for a record not of its slot's kind": what is said of one record, after a state. Where
+-- what it would store does not fit, it can't be judged as written, and the checks that rebalancing leaves alone speak.
 pub data EntrySays (name : List ℕ) (st : State) (e : Entry) : Outcome → Type 0 where
   BadCharacter : {i : ℕ} → firstBad (filled name e) ≡ BadAt i → EntrySays name st e (Fault 3 (i + 1))
   OutOfSlot : {n p : ℕ} → firstBad (filled name e) ≡ Allowed → slotFault (e .slot) (filled name e) ≡ Fault n p → EntrySays name st e (Fault n p)
-  AsWritten : firstBad (filled name e) ≡ Allowed → slotFault (e .slot) (filled name e) ≡ Pass → EntrySays name st e (fault name st (emit st (filled name e)))
+  AsWritten : firstBad (filled name e) ≡ Allowed → slotFault (e .slot) (filled name e) ≡ Pass → fitsAll (storedOf st (kindIn (filled name e))) ≡ true → EntrySays name st e (fault name st (emit st (filled name e)))
+  Unstorable : firstBad (filled name e) ≡ Allowed → slotFault (e .slot) (filled name e) ≡ Pass → fitsAll (storedOf st (kindIn (filled name e))) ≡ false → EntrySays name st e (keptFault name st (filled name e))
 
 -- No record of a list has a fault, in its slot and with what is filled.
 abbrev pub NoEntryFault : List ℕ → State → List Entry → Type 0

@@ -33,7 +33,7 @@ abbrev pub nameIn : List ℕ → List ℕ
 nameIn sheet = bytesOf sheet supportName
 
 -- "01's first fault, in the records to be written, with every filled field taken as right and 4 for a record not of its slot's kind": of one record, 3, that 4, and
--- then what rebalancing leaves to be judged
+-- then what rebalancing leaves to be judged, of which the first is 3 again and has passed
 unfoldable pub entryFault : List ℕ → State → Entry → Outcome
 entryFault name st e =
     first (charFault (firstBad (filled name e))) (first (slotFault (e .slot) (filled name e)) (keptFault name st (filled name e)))
@@ -78,5 +78,6 @@ abbrev pub roomWith : Writing → List ℕ → List ℕ → List ℕ
 roomWith (Written n) flow room = flow ++ drop n room
 roomWith (Refused n r p) flow room = room
 
+-- the room after the writing of a sheet's flow
 unfoldable pub roomAfter : List ℕ → List ℕ → List ℕ
 roomAfter sheet room = roomWith (writingOf sheet room) (flowOf sheet) room

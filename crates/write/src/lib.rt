@@ -50,6 +50,7 @@ pub fn write(sheet: &[u8], room: &mut [u8]) -> Writing
         return Writing::Refused(24, 0, 0);
     };
     let count = end.count;
+    // The room is divided, since a product of any count could wrap.
     if room.len() / Flow::RECORD < count {
         return Writing::Refused(25, 0, 0);
     }

@@ -75,7 +75,7 @@ fn one_case(fd: i32) -> bool {
 }
 
 // The cases of one file.
-fn write_all(path: &[u8]) {
+fn run_file(path: &[u8]) {
     let fd = desk::open_cases(path);
     for _ in 0..desk::MOST_CASES {
         if !one_case(fd) {
@@ -87,6 +87,6 @@ fn write_all(path: &[u8]) {
 
 // The cases whose rooms were written by hand, then the sheets that the reference has answered.
 fn main() {
-    write_all(b"sheets");
-    write_all(b"vectors");
+    run_file(b"sheets");
+    run_file(b"vectors");
 }

@@ -3,7 +3,7 @@ use lib.ListN.{length, take, drop}
 use native.Mathlib.Nat.{add-sub-cancel-left}
 use Prim.Native.Nat.{_+_, _≤_}
 use Rattle.text.proofs.Bytes.{part-length}
-use Rattle.correct.proofs.Undone.{copied}
+use Rattle.text.proofs.Fits.{copied}
 use borrow.Author.Needs.{needs}
 use Rattle.correct.proofs.bytes_at.Statement.{statement}
 use Rattle.correct.proofs.bytes_at.Tie as tie
@@ -31,7 +31,7 @@ returns c =
     let at = c .before .before .before .before .before .args .at in
     let f = c .before .before .before .before .before .args .flow .now in
     let h : at + 15 ≤ length f = c .before .before .before .before .before .pre in
-    copied (take 15 (drop at f)) _ (part-length 15 at f h) (rw (add-sub-cancel-left at 15) at (c .before .put-part .ensures .1))
+    copied 15 (take 15 (drop at f)) _ (part-length 15 at f h) (rw (add-sub-cancel-left at 15) at (c .before .put-part .ensures .1))
 
 pub bytes-at-spec : {M : Type 1} → statement M
 bytes-at-spec =

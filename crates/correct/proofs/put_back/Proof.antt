@@ -3,7 +3,7 @@ use Rattle.text.proofs.Puts.{length-put}
 use Rattle.text.specs.Placing.{putAt}
 use lib.ListN.{length}
 use Prim.Native.Nat.{_+_, _≤_}
-use Rattle.correct.proofs.Undone.{put-is}
+use Rattle.text.proofs.Fits.{part-put}
 use native.Mathlib.Omega.{arith}
 use mathlib.Core.Path.{_≡_, ap, _∙_}
 use borrow.Author.Needs.{needs}
@@ -34,9 +34,9 @@ returns c =
     let nd : length (s .args .t4) ≡ 15 = search needs in
     let nc : length (s .args .t5) ≡ 15 = search needs in
     let gd : s .args .debit-at + length (s .args .t4) ≤ length f = omega arith in
-    let e = put-is _ _ _ _ gd (c .before .before .before .before .before .before .before .put-part .ensures .1) in
+    let e = part-put _ _ _ _ gd (c .before .before .before .before .before .before .before .put-part .ensures .1) in
     let n = ap length e ∙ length-put _ _ _ gd in
-    put-is _ _ _ _ (omega arith) (c .before .before .put-part2 .ensures .1) ∙ ap (putAt (s .args .credit-at) (s .args .t5)) e
+    part-put _ _ _ _ (omega arith) (c .before .before .put-part2 .ensures .1) ∙ ap (putAt (s .args .credit-at) (s .args .t5)) e
 
 pub put-back-spec : {M : Type 1} → statement M
 put-back-spec =

@@ -4,13 +4,13 @@ use borrow.Author.Needs.{needs}
 use mathlib.Core.Path.{sym, _∙_}
 use borrow.Author.Tests.{lt-ltb, le-ltb}
 use Rattle.write.proofs.NeverEight.{writing-number}
-use Rattle.f24.specs.Linked.{writeCode, writeFlow, writeRoom}
+use Rattle.f24.specs.Linked.{writeCode, writeRoom, writeAnswer}
 use Rattle.f24.proofs.Rooms.{short-code, short-room, long-code, answer-room, refused-room}
 use Rattle.f24.proofs.f24_write.Statement.{statement}
 use Rattle.f24.proofs.f24_write.Tie as tie
 
 returns : tie.Need-returns
-unfolding writeCode writeFlow writeRoom
+unfolding writeCode writeRoom writeAnswer
 returns c = (short-code _ _ (c .if1 .taken), rw (lt-ltb _ _ (c .if1 .taken)), short-room _ _ (c .if1 .taken))
 
 write-requires : tie.Need-write-requires
@@ -38,8 +38,12 @@ same-length-2 : tie.Need-same-length-2
 same-length-2 c = search needs
 
 returns-2 : tie.Need-returns-2
-unfolding writeCode writeFlow writeRoom
-returns-2 c = let q = c .before .before .before .before .before .before .before .before .before .before in let e = sym (q .write .ensures .0) ∙ c .before .before .before .before .before .before .length .given .1 in let h = q .before .before .if1 .left in (long-code _ h (rw e), rw (le-ltb _ _ h) (q .write .ensures .1), rw e (answer-room _ _ h (c .before .before .put .ensures)))
+unfolding writeCode writeRoom writeAnswer
+returns-2 c =
+    let q = c .before .before .before .before .before .before .before .before .before .before in
+    let e = sym (q .write .ensures .0) ∙ c .before .before .before .before .before .before .length .given .1 in
+    let h = q .before .before .if1 .left in
+    (long-code _ h (rw e), rw (le-ltb _ _ h) (q .write .ensures .1), rw e (answer-room _ _ h (c .before .before .put .ensures)))
 
 same-length-3 : tie.Need-same-length-3
 same-length-3 c = search needs
@@ -48,8 +52,12 @@ same-length-4 : tie.Need-same-length-4
 same-length-4 c = search needs
 
 returns-3 : tie.Need-returns-3
-unfolding writeCode writeFlow writeRoom
-returns-3 c = let q = c .before .before .before .before .before .before .before .before .before in let e = sym (q .write .ensures .0) ∙ c .before .before .before .before .before .number .given .1 in let h = q .before .before .if1 .left in (long-code _ h (rw e), rw (le-ltb _ _ h) (q .write .ensures .1), rw e (refused-room _ _ _ _ _ (writing-number _ _ e) h (c .before .before .put-refusal .ensures)))
+unfolding writeCode writeRoom writeAnswer
+returns-3 c =
+    let q = c .before .before .before .before .before .before .before .before .before in
+    let e = sym (q .write .ensures .0) ∙ c .before .before .before .before .before .number .given .1 in
+    let h = q .before .before .if1 .left in
+    (long-code _ h (rw e), rw (le-ltb _ _ h) (q .write .ensures .1), rw e (refused-room _ _ _ _ _ (writing-number _ _ e) h (c .before .before .put-refusal .ensures)))
 
 pub f24-write-spec : {M : Type 1} → statement M
 f24-write-spec =

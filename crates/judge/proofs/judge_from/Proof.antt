@@ -18,8 +18,8 @@ use Rattle.order.proofs.Fitting.{fits-passes}
 use Rattle.rules.specs.declared.State.{State}
 use Rattle.amounts.specs.declared.Outcome.the-variants.{Pass, Fault}
 use Rattle.layout.specs.Fields.{nowhere, delegaNumber, fieldsOf, bytesOf, valueOf}
-use Rattle.layout.specs.Forms.{numbered, formOf}
-use Rattle.layout.specs.Kinds.{typeIn, kindIn}
+use Rattle.layout.specs.Forms.{formOf}
+use Rattle.layout.specs.Kinds.{numbered, typeIn, kindIn}
 use Rattle.layout.specs.declared.Field.{Field}
 use Rattle.layout.specs.declared.Form.{Form}
 use Rattle.layout.specs.declared.Kind.{Kind}

@@ -1,3 +1,4 @@
+-- `lenient::ended` meets its contract: behind EF there is no refusal, else 5.
 use Rattle.lenient.specs.Lenient.{ended}
 use borrow.Author.Tests.{eq-eqb, ne-eqb}
 use borrow.Author.Needs.{needs}

@@ -1,3 +1,4 @@
+-- `lenient::first_value` meets its contract: what the first numeric field says, and 0 where it says no number.
 use mathlib.Core.Path.{_≡_, sym, ap, _∙_}
 use mathlib.Core.List.{List}
 use Prim.Native.Nat.{ℕ}

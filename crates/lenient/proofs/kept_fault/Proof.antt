@@ -1,3 +1,4 @@
+-- `lenient::kept_fault` meets its contract: the checks one by one, each left by a return where it fails.
 use mathlib.Core.Path.{_≡_, sym, ap, _∙_}
 use Rattle.layout.specs.Kinds.{typeIn}
 use Rattle.layout.specs.Fields.{delegaNumber, valueOf}

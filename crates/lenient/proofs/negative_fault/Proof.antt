@@ -1,3 +1,4 @@
+-- `lenient::negative_fault` meets its contract.
 use Rattle.rules.specs.Checks.{negativeFault}
 use borrow.Author.Tests.{lt-ltb, le-ltb}
 use Rattle.lenient.proofs.negative_fault.Statement.{statement}

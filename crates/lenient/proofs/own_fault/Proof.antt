@@ -1,3 +1,4 @@
+-- `lenient::own_fault` meets its contract, kind by kind.
 use mathlib.Core.Path.{_∙_}
 use Rattle.rules.specs.Values.{headOn}
 use borrow.Author.Needs.{needs}

@@ -1,3 +1,4 @@
+-- `lenient::record_fault` meets its contract: 3, then the known misfit, then the other checks.
 use Prim.Native.Nat.{_+_}
 use borrow.Author.Tests.{eq-eqb, ne-eqb}
 use Rattle.lenient.specs.Lenient.{misfitFault}

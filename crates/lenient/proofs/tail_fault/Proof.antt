@@ -1,3 +1,4 @@
+-- `lenient::tail_fault` meets its contract.
 use Rattle.rules.specs.Checks.{tailName}
 use borrow.Author.Needs.{needs}
 use Rattle.lenient.proofs.tail_fault.Statement.{statement}

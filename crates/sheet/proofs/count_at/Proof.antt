@@ -1,7 +1,7 @@
 -- `sheet::count_at` meets its contract.
 use native.Mathlib.Omega.{arith}
 use mathlib.Core.Path.{_∙_}
-use lib.ListN.{length, take, drop, length-drop}
+use lib.ListN.{length-drop}
 use native.Mathlib.Nat.{add-sub-cancel-left}
 use Rattle.sheet.proofs.Written.{count-short, count-read}
 use borrow.Author.Needs.{needs}

@@ -7,7 +7,7 @@ use lib.ListN.{drop}
 use native.Mathlib.Omega.{arith}
 use borrow.Author.Needs.{needs}
 use Rattle.sheet.specs.declared.Spot.{Spot}
-use Rattle.sheet.specs.Sheet.{Reading, andThen, delegaOf, delegheFrom}
+use Rattle.sheet.specs.Sheet.{Reading, andThen, oneDelega, delegheFrom}
 use Rattle.sheet.proofs.Walks.{Going, going-start, going-by, going-then, going-stop, going-end}
 use Rattle.sheet.proofs.Steps.{deleghe-on, deleghe-end}
 use Rattle.sheet.proofs.deleghe.Statement.{statement}
@@ -43,7 +43,7 @@ left-at l b = drop (b .at) (start l .args .sheet .now)
 
 -- The next delega, and the deleghe behind it.
 abbrev next : AtRec → Reading
-next c = delegaOf (loop c .loop .d + 1) (left-at (loop c) (loop c .loop .here))
+next c = oneDelega (loop c .loop .d + 1) (left-at (loop c) (loop c .loop .here))
 
 abbrev behind : AtRec → List ℕ → Reading
 behind c = delegheFrom (start (loop c) .args .n - (loop c .loop .d + 1)) (loop c .loop .d + 1 + 1)
@@ -74,7 +74,9 @@ same-length : tie.Need-same-length Inv-loop μ-loop
 same-length c = search needs
 
 returns : tie.Need-returns Inv-loop μ-loop
-returns c = let q = c .before .before .before .before in going-stop _ _ _ _ _ _ _ (next q) (behind q) _ _ (opened q) (q .delega .ensures) (c .enum-told .given .1)
+returns c =
+    let q = c .before .before .before .before in
+    going-stop _ _ _ _ _ _ _ (next q) (behind q) _ _ (opened q) (q .delega .ensures) (c .enum-told .given .1)
 
 add-d : tie.Need-add-d Inv-loop μ-loop
 add-d c = search needs
@@ -83,7 +85,9 @@ loop-less : tie.Need-loop-less Inv-loop μ-loop
 loop-less c = search needs
 
 loop-again : tie.Need-loop-again Inv-loop μ-loop
-loop-again c = let q = c .before .before .before .before .before in going-then _ _ _ _ _ _ _ (next q) (behind q) _ _ _ (opened q) (q .delega .ensures) (c .before .behind .given .1)
+loop-again c =
+    let q = c .before .before .before .before .before in
+    going-then _ _ _ _ _ _ _ (next q) (behind q) _ _ _ (opened q) (q .delega .ensures) (c .before .behind .given .1)
 
 same-length-2 : tie.Need-same-length-2 Inv-loop μ-loop
 same-length-2 c = search needs

@@ -1,8 +1,4 @@
 -- `sheet::enter` meets its contract.
-use native.Mathlib.Omega.{arith}
-use mathlib.Core.Path.{_≡_, refl, sym, ap, _∙_}
-use mathlib.Core.List.{List, _++_}
-use lib.ListN.{take}
 use Rattle.sheet.proofs.Written.{entered}
 use borrow.Author.Needs.{needs}
 use Rattle.sheet.proofs.enter.Statement.{statement}
@@ -30,7 +26,9 @@ same-length : tie.Need-same-length
 same-length c = search needs
 
 returns : tie.Need-returns
-returns c = let s = c .before .before .before .before .before .before .before .before .before .before .before .before .before in entered _ (s .args .spot) _ _ _ _ _ (s .pre .0 .0) (c .before .before .before .before .before .before .before .before .before .filled-record .ensures) (c .before .before .before .before .before .before .put-record .ensures) (c .or-misfit .ensures)
+returns c =
+    let s = c .before .before .before .before .before .before .before .before .before .before .before .before .before in
+    entered _ (s .args .spot) _ _ _ _ _ (s .pre .0 .0) (c .before .before .before .before .before .before .before .before .before .filled-record .ensures) (c .before .before .before .before .before .before .put-record .ensures) (c .or-misfit .ensures)
 
 pub enter-spec : {M : Type 1} → statement M
 enter-spec = tie.close (tie.spec filled-record-requires slice-aggregate-put-record put-record-requires add-count slice-aggregate-or-misfit or-misfit-requires same-length returns)

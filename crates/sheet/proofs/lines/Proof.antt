@@ -1,7 +1,6 @@
 -- `sheet::lines` meets its contract. The loop's invariant: what is left to be read from the present spot gives what the whole does. The measure is the number
 -- of lines left.
 use Prim.Native.Nat.{ℕ, _-_}
-use mathlib.Core.Path.{_≡_}
 use mathlib.Core.List.{List}
 use lib.ListN.{drop}
 use native.Mathlib.Omega.{arith}
@@ -70,7 +69,9 @@ same-length : tie.Need-same-length Inv-loop μ-loop
 same-length c = search needs
 
 returns : tie.Need-returns Inv-loop μ-loop
-returns c = let q = c .before .before .before .before in going-stop _ _ _ _ _ _ _ (next q) (behind q) _ _ (opened q) (q .record .ensures) (c .enum-told .given .1)
+returns c =
+    let q = c .before .before .before .before in
+    going-stop _ _ _ _ _ _ _ (next q) (behind q) _ _ (opened q) (q .record .ensures) (c .enum-told .given .1)
 
 sub-left : tie.Need-sub-left Inv-loop μ-loop
 sub-left c = search needs
@@ -79,7 +80,9 @@ loop-less : tie.Need-loop-less Inv-loop μ-loop
 loop-less c = search needs
 
 loop-again : tie.Need-loop-again Inv-loop μ-loop
-loop-again c = let q = c .before .before .before .before .before in going-then _ _ _ _ _ _ _ (next q) (behind q) _ _ _ (opened q) (q .record .ensures) (c .before .behind .given .1)
+loop-again c =
+    let q = c .before .before .before .before .before in
+    going-then _ _ _ _ _ _ _ (next q) (behind q) _ _ _ (opened q) (q .record .ensures) (c .before .behind .given .1)
 
 same-length-2 : tie.Need-same-length-2 Inv-loop μ-loop
 same-length-2 c = search needs

@@ -16,7 +16,9 @@ same-length : tie.Need-same-length
 same-length c = search needs
 
 returns : tie.Need-returns
-returns c = let p = put-next _ _ _ _ (omega (arith, c .before .before .before .before .before .before .before .pre .0, c .before .before .before .before .if1 .taken)) (c .before .before .before .before .before .before .before .pre .1) (c .before .before .put-part .ensures .1) in (p .0 ∙ c .before .before .before .before .before .before .before .pre .0, λ h. p .1)
+returns c =
+    let p = put-next _ _ _ _ (omega (arith, c .before .before .before .before .before .before .before .pre .0, c .before .before .before .before .if1 .taken)) (c .before .before .before .before .before .before .before .pre .1) (c .before .before .put-part .ensures .1) in
+    (p .0 ∙ c .before .before .before .before .before .before .before .pre .0, λ h. p .1)
 
 returns-2 : tie.Need-returns-2
 returns-2 c = (c .before .before .before .pre .0, λ h. absurd (omega (arith, h, c .if1 .left)))

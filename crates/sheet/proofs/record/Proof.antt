@@ -2,13 +2,9 @@
 use borrow.Author.Needs.{needs}
 use native.Mathlib.Omega.{arith}
 use native.Mathlib.Nat.{add-sub-cancel-left}
-use mathlib.Core.Path.{_≡_, ap, subst}
-use mathlib.Core.List.{List}
-use Prim.Native.Nat.{ℕ, _+_, _≤_}
+use Prim.Native.Nat.{_+_, _≤_}
 use lib.ListN.{length}
 use Rattle.text.proofs.Bytes.{part-length}
-use Rattle.sheet.specs.declared.Spot.{Spot}
-use Rattle.sheet.specs.Walk.{Enters}
 use Rattle.sheet.proofs.Steps.{record-missing, record-entered}
 use Rattle.sheet.proofs.record.Statement.{statement}
 use Rattle.sheet.proofs.record.Tie as tie
@@ -41,13 +37,17 @@ part-keyed-end : tie.Need-part-keyed-end
 part-keyed-end c = search needs
 
 enter-requires : tie.Need-enter-requires
-enter-requires c κs = let s = c .before .before .before .before .before .before .before .before in ((s .pre .0 .room, s .pre .1, rw (add-sub-cancel-left (s .args .spot .at) 120) (part-length 120 (s .args .spot .at) (s .args .sheet .now) (room (c .before .before .before)))), (s .pre .2, rw (c .before .before .beyond .ensures) (omega (arith, s .pre .0 .few))))
+enter-requires c κs =
+    let s = c .before .before .before .before .before .before .before .before in
+    ((s .pre .0 .room, s .pre .1, rw (add-sub-cancel-left (s .args .spot .at) 120) (part-length 120 (s .args .spot .at) (s .args .sheet .now) (room (c .before .before .before)))), (s .pre .2, rw (c .before .before .beyond .ensures) (omega (arith, s .pre .0 .few))))
 
 same-length : tie.Need-same-length
 same-length c = search needs
 
 returns-2 : tie.Need-returns-2
-returns-2 c = let s = c .before .before .before .before .before .before .before .before .before .before .before in record-entered _ _ (s .args .spot) _ _ _ _ _ _ (room (c .before .before .before .before .before .before)) (rw (add-sub-cancel-left (s .args .spot .at) 120)) (rw (c .before .before .before .before .before .beyond .ensures) at (c .before .before .enter .ensures))
+returns-2 c =
+    let s = c .before .before .before .before .before .before .before .before .before .before .before in
+    record-entered _ _ (s .args .spot) _ _ _ _ _ _ (room (c .before .before .before .before .before .before)) (rw (add-sub-cancel-left (s .args .spot .at) 120)) (rw (c .before .before .before .before .before .beyond .ensures) at (c .before .before .enter .ensures))
 
 pub record-spec : {M : Type 1} → statement M
 record-spec =

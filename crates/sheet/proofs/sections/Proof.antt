@@ -1,12 +1,11 @@
 -- `sheet::sections` meets its contract. The loop's invariant: what is left to be read from the present spot gives what the whole does. The measure is the number
 -- of sections left.
 use Prim.Native.Nat.{ℕ, _+_, _-_}
-use mathlib.Core.Path.{_≡_}
 use mathlib.Core.List.{List}
 use lib.ListN.{drop}
 use borrow.Author.Needs.{needs}
 use Rattle.sheet.specs.declared.Spot.{Spot}
-use Rattle.sheet.specs.Sheet.{Reading, andThen, counted, sectionOf, sectionsFrom}
+use Rattle.sheet.specs.Sheet.{Reading, andThen, counted, oneSection, sectionsFrom}
 use Rattle.sheet.proofs.Walks.{Going, going-start, going-by, going-then, going-stop, going-end}
 use Rattle.sheet.proofs.Steps.{sections-on, sections-end}
 use Rattle.sheet.proofs.sections.Statement.{statement}
@@ -42,7 +41,7 @@ left-at l b = drop (b .at) (start l .args .sheet .now)
 
 -- The next section, and the sections behind it.
 abbrev next : AtRec → Reading
-next c = counted 2 (left-at (loop c) (loop c .loop .here)) (sectionOf (loop c .loop .x) (start (loop c) .args .d))
+next c = counted 2 (left-at (loop c) (loop c .loop .here)) (oneSection (loop c .loop .x) (start (loop c) .args .d))
 
 abbrev behind : AtRec → List ℕ → Reading
 behind c = sectionsFrom (start (loop c) .args .d) (5 - (loop c .loop .x + 1)) (loop c .loop .x + 1)
@@ -68,7 +67,9 @@ same-length : tie.Need-same-length Inv-loop μ-loop
 same-length c = search needs
 
 returns : tie.Need-returns Inv-loop μ-loop
-returns c = let q = c .before .before .before .before in going-stop _ _ _ _ _ _ _ (next q) (behind q) _ _ (opened q) (q .section .ensures) (c .enum-told .given .1)
+returns c =
+    let q = c .before .before .before .before in
+    going-stop _ _ _ _ _ _ _ (next q) (behind q) _ _ (opened q) (q .section .ensures) (c .enum-told .given .1)
 
 add-x : tie.Need-add-x Inv-loop μ-loop
 add-x c = search needs
@@ -77,7 +78,9 @@ loop-less : tie.Need-loop-less Inv-loop μ-loop
 loop-less c = search needs
 
 loop-again : tie.Need-loop-again Inv-loop μ-loop
-loop-again c = let q = c .before .before .before .before .before in going-then _ _ _ _ _ _ _ (next q) (behind q) _ _ _ (opened q) (q .section .ensures) (c .before .behind .given .1)
+loop-again c =
+    let q = c .before .before .before .before .before in
+    going-then _ _ _ _ _ _ _ (next q) (behind q) _ _ _ (opened q) (q .section .ensures) (c .before .behind .given .1)
 
 same-length-2 : tie.Need-same-length-2 Inv-loop μ-loop
 same-length-2 c = search needs

@@ -1,7 +1,6 @@
 -- `write_cases::mark` is safe and ends: its counter rises to the length of the room.
 use Prim.Native.Nat.{_-_}
 use mathlib.Core.Path.{_≡_, refl}
-use native.Mathlib.Omega.{arith}
 use borrow.Author.Needs.{needs}
 use lib.ListN.{length}
 use Rattle.write_cases.proofs.mark.Statement.{statement}

@@ -1,4 +1,4 @@
-use Rattle.layout.specs.Forms.{numbered}
+use Rattle.layout.specs.Kinds.{numbered}
 use borrow.Author.Needs.{needs}
 use Rattle.layout.proofs.forms.is_numbered.Statement.{statement}
 use Rattle.layout.proofs.forms.is_numbered.Tie as tie

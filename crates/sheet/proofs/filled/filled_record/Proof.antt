@@ -1,8 +1,6 @@
 -- `sheet::filled::filled_record` meets its contract.
-use Rattle.sheet.proofs.Written.{copied, start-fits, start-few, filled-by}
-use Rattle.rules.specs.declared.State.{State}
-use Rattle.rules.specs.Stored.{storedOf}
-use Rattle.rebalance.specs.Rebalance.{fitsAll}
+use Rattle.text.proofs.Fits.{copied}
+use Rattle.sheet.proofs.Written.{start-fits, start-few, filled-by}
 use borrow.Author.Needs.{needs}
 use Rattle.sheet.proofs.filled.filled_record.Statement.{statement}
 use Rattle.sheet.proofs.filled.filled_record.Tie as tie
@@ -35,7 +33,7 @@ fill-requires : tie.Need-fill-requires
 fill-requires c κs = (search needs, start-few _ (c .start .ensures), rw (c .start .ensures) (start-fits (c .before .before .before .before .before .before .before .before .before .before .before .before .before .args .slot)))
 
 returns : tie.Need-returns
-returns c = filled-by _ _ _ _ _ _ _ _ _ (copied _ _ (c .before .before .before .before .before .before .before .before .before .before .before .before .before .before .before .pre .0) (c .before .before .before .before .before .before .before .before .before .before .before .put-part .ensures .1)) (c .before .before .before .before .before .before .before .before .put-delega .ensures) (c .before .before .before .before .before .put-name .ensures) (c .before .before .start .ensures) (c .before .fill .ensures)
+returns c = filled-by _ _ _ _ _ _ _ _ _ (copied 120 _ _ (c .before .before .before .before .before .before .before .before .before .before .before .before .before .before .before .pre .0) (c .before .before .before .before .before .before .before .before .before .before .before .put-part .ensures .1)) (c .before .before .before .before .before .before .before .before .put-delega .ensures) (c .before .before .before .before .before .put-name .ensures) (c .before .before .start .ensures) (c .before .fill .ensures)
 
 pub filled-record-spec : {M : Type 1} → statement M
 filled-record-spec = tie.close (tie.spec slice-aggregate-put-part put-part-requires slice-aggregate-put-delega put-delega-requires slice-aggregate-put-name put-name-requires slice-aggregate-fill start-requires fill-requires returns)

@@ -1,8 +1,7 @@
 -- `sheet::filled::put_delega` meets its contract.
 use native.Mathlib.Omega.{arith}
-use Rattle.layout.specs.Forms.{numbered}
 use Rattle.sheet.specs.Filled.{withNumber}
-use Rattle.sheet.proofs.Written.{number-put}
+use Rattle.text.proofs.Fits.{number-put}
 use borrow.Author.Needs.{needs}
 use Rattle.sheet.proofs.filled.put_delega.Statement.{statement}
 use Rattle.sheet.proofs.filled.put_delega.Tie as tie

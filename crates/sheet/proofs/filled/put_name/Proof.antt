@@ -1,7 +1,8 @@
 -- `sheet::filled::put_name` meets its contract.
 use native.Mathlib.Omega.{arith}
 use Rattle.sheet.specs.Filled.{withName}
-use Rattle.sheet.proofs.Written.{part-put, no-tail}
+use Rattle.text.proofs.Fits.{part-put}
+use Rattle.sheet.proofs.Written.{no-tail}
 use borrow.Author.Needs.{needs}
 use Rattle.sheet.proofs.filled.put_name.Statement.{statement}
 use Rattle.sheet.proofs.filled.put_name.Tie as tie

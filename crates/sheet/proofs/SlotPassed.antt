@@ -50,7 +50,7 @@ type-of r a b e = ap₂ typeOf (byte 0 (lit< tt) ∙ ap (λ (l : List ℕ). getD
     byte i h = sym (getD-take 2 (drop 1 r) i 0 h ∙ getD-drop 1 r i 0)
 
 -- What holds of each of the five sections.
-each-section : (P : ℕ → Type 0) → P 0 → P 1 → P 2 → P 3 → P 4 → (x : ℕ) → x < 5 → P x
+pub each-section : (P : ℕ → Type 0) → P 0 → P 1 → P 2 → P 3 → P 4 → (x : ℕ) → x < 5 → P x
 each-section P a b c d e zero h = a
 each-section P a b c d e (suc zero) h = b
 each-section P a b c d e (suc (suc zero)) h = c

@@ -25,7 +25,7 @@ use Rattle.amounts.specs.declared.Outcome.the-variants.{Pass}
 use Rattle.amounts.specs.Names.{sameBytes}
 use Rattle.sheet.specs.Slots.{typeText, subtypeText, slotFault}
 use Rattle.sheet.specs.Contents.{Slot}
-use Rattle.sheet.proofs.SlotKinds.{slot-kind}
+use Rattle.sheet.proofs.SlotPassed.{slot-kind}
 
 -- Bytes are the same as themselves.
 pub same-itself : (l : List ℕ) → sameBytes l l ≡ true

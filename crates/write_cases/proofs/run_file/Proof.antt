@@ -1,9 +1,9 @@
--- `write_cases::write_all` is safe and ends: its counter rises to ten thousand.
+-- `write_cases::run_file` is safe and ends: its counter rises to ten thousand.
 use Prim.Native.Nat.{_-_}
 use native.Mathlib.Omega.{arith}
 use borrow.Author.Needs.{needs}
-use Rattle.write_cases.proofs.write_all.Statement.{statement}
-use Rattle.write_cases.proofs.write_all.Tie as tie
+use Rattle.write_cases.proofs.run_file.Statement.{statement}
+use Rattle.write_cases.proofs.run_file.Tie as tie
 
 abbrev Inv-loop : tie.InvT-loop
 Inv-loop path fd counter₀ counter = Unit {0}
@@ -35,8 +35,8 @@ close-requires c κs = tt
 returns : tie.Need-returns Inv-loop μ-loop
 returns c = tt
 
-pub write-all-spec : {M : Type 1} → statement M
-write-all-spec =
+pub run-file-spec : {M : Type 1} → statement M
+run-file-spec =
     tie.close
     (tie.spec
     Inv-loop

@@ -1,47 +1,47 @@
--- Columns of a record: bytes outside them, and the columns that each slot stores.
-use Prim.Native.Nat.{ℕ, _+_, _≤_, _<_}
+-- Indexes outside fields: which bytes a put leaves, and which stored fields they are clear of.
+use Prim.Native.Nat.{ℕ, _+_, _<_, _≤_}
 use mathlib.Core.Path.{_≡_, refl, ap}
 use mathlib.Core.Bool.{Bool, true, false, cond, true≢false}
 use mathlib.Core.List.{List, [], _∷_}
-use mathlib.Core.Logic.{_⊎_, inl, inr, ⊎-elim}
 use native.Mathlib.Omega.{arith}
+use mathlib.Core.Logic.{_⊎_, inl, inr, ⊎-elim}
 use borrow.Author.Tests.{lt-leb, le-ltb, ltb-false, leb-false, le-leb}
 use lib.Dec.{ltb, leb}
 use lib.ListN.{length, getD}
 use Rattle.text.specs.Placing.{putAt}
 use Rattle.text.proofs.Puts.{put-byte-before, put-byte-after}
 use Rattle.layout.specs.declared.Field.{Field}
-use Rattle.layout.specs.declared.Kind.{Kind}
 use Rattle.layout.specs.Sections.{sectionAt}
-use Rattle.layout.specs.Fields.{amountAt, finalBalance, tailDeleghe, tailSum, tailRecords}
+use Rattle.layout.specs.Fields.{amountAt}
 use Rattle.amounts.specs.declared.Sums.{Sums}
-use Rattle.rules.specs.declared.State.{State}
-use Rattle.rules.specs.Stored.{Stored, Value, sectionSums, storedBalance, storedOf}
+use Rattle.rules.specs.Stored.{Stored, Value, storedBalance}
 use Rattle.rebalance.specs.Rebalance.{clear, startOf, widthOf}
-use Rattle.sheet.specs.Contents as In
-use Rattle.sheet.specs.Contents.{Slot}
-use Rattle.write.specs.Effect.{inColumns, signAndBalance, balanceColumns}
+use Rattle.rebalance.specs.Places.{inColumns, signAndBalance}
 
 -- An index lies before or behind a field.
-abbrev pub Off : ℕ → Field → Type 0
-Off i f = (i < f .start) ⊎ (f .end ≤ i)
+abbrev pub Beside : ℕ → Field → Type 0
+Beside i f = (i < f .start) ⊎ (f .end ≤ i)
 
 -- An index outside fields lies before or behind each.
-pub outside : (i : ℕ) (f : Field) (fs : List Field) → inColumns i (f ∷ fs) ≡ false → Off i f × (inColumns i fs ≡ false)
+pub outside : (i : ℕ) (f : Field) (fs : List Field) → inColumns i (f ∷ fs) ≡ false → Beside i f × (inColumns i fs ≡ false)
 unfolding inColumns
 outside i f fs e = go (leb (f .start) i) (ltb i (f .end)) refl refl e
   where
-    go : (t u : Bool) → leb (f .start) i ≡ t → ltb i (f .end) ≡ u → cond (cond t u false) true (inColumns i fs) ≡ false → Off i f × (inColumns i fs ≡ false)
+    go : (t u : Bool) → leb (f .start) i ≡ t → ltb i (f .end) ≡ u → cond (cond t u false) true (inColumns i fs) ≡ false → Beside i f × (inColumns i fs ≡ false)
     go true true p q e = absurd (true≢false e)
     go true false p q e = (inr (ltb-false _ _ q), e)
     go false u p q e = (inl (leb-false _ _ p), e)
 
 -- A byte before or behind a place stays when bytes are put there.
-pub put-off : (f : Field) (bs r : List ℕ) → f .start + length bs ≡ f .end → f .end ≤ length r → (i : ℕ) → Off i f → getD (putAt (f .start) bs r) i 0 ≡ getD r i 0
-put-off f bs r e h i o = ⊎-elim (put-byte-before (f .start) bs r (omega arith) i 0) (λ p. put-byte-after (f .start) bs r (omega arith) i 0 (omega arith)) o
+pub put-outside : (a : ℕ) (bs r : List ℕ) → a + length bs ≤ length r → (c : ℕ) → (c < a) ⊎ (a + length bs ≤ c) → getD (putAt a bs r) c 0 ≡ getD r c 0
+put-outside a bs r h c o = ⊎-elim (put-byte-before a bs r h c 0) (put-byte-after a bs r h c 0) o
+
+-- The same of bytes that fill a field.
+pub put-off : (f : Field) (bs r : List ℕ) → f .start + length bs ≡ f .end → f .end ≤ length r → (i : ℕ) → Beside i f → getD (putAt (f .start) bs r) i 0 ≡ getD r i 0
+put-off f bs r e h i o = put-outside (f .start) bs r (omega arith) i (⊎-elim (λ p. inl p) (λ p. inr (omega arith)) o)
 
 -- An index before or behind a field and outside others is outside all.
-pub off-all : (i : ℕ) (f : Field) (fs : List Field) → Off i f → inColumns i fs ≡ false → inColumns i (f ∷ fs) ≡ false
+pub off-all : (i : ℕ) (f : Field) (fs : List Field) → Beside i f → inColumns i fs ≡ false → inColumns i (f ∷ fs) ≡ false
 unfolding inColumns
 off-all i f fs o e = ⊎-elim (λ p. rw (lt-leb (f .start) i p) e) (λ p. rw (le-ltb i (f .end) p, go (leb (f .start) i)) e) o
   where
@@ -90,27 +90,7 @@ covers-clear i (f ∷ fs) (x ∷ xs) v h =
     clear-on i x xs (⊎-elim (λ p. inl (omega (arith, v .0))) (λ p. inr (omega (arith, v .1))) (o .0)) (covers-clear i fs xs (v .2) (o .1))
 
 -- The columns of a balance record are those of what it stores.
-balance-covers : (x : ℕ) (t : Sums) (b : Bool) → Covers (cond b (amountAt (sectionAt x .«total_debit») ∷ amountAt (sectionAt x .«total_credit») ∷ signAndBalance x) (signAndBalance x))
+pub balance-covers : (x : ℕ) (t : Sums) (b : Bool) → Covers (cond b (amountAt (sectionAt x .«total_debit») ∷ amountAt (sectionAt x .«total_credit») ∷ signAndBalance x) (signAndBalance x))
     (cond b (Value 10 (amountAt (sectionAt x .«total_debit»)) (t .debit) ∷ Value 11 (amountAt (sectionAt x .«total_credit»)) (t .credit) ∷ storedBalance x t) (storedBalance x t))
 balance-covers x t true = (refl, omega arith, (refl, omega arith, (refl, refl, (refl, omega arith, tt))))
 balance-covers x t false = (refl, refl, (refl, omega arith, tt))
-
--- The columns that a slot stores.
-abbrev pub slotStored : {k : Kind} → Slot k → List Field
-slotStored In.head = []
-slotStored In.taxpayer = []
-slotStored In.domicile = []
-slotStored (In.line x h) = []
-slotStored (In.balance x h) = balanceColumns x
-slotStored In.payment = finalBalance ∷ []
-slotStored In.tail = tailDeleghe ∷ tailRecords ∷ tailSum ∷ []
-
--- They are the columns of what it stores, after whatever state.
-pub slot-covers : {k : Kind} (s : Slot k) (st : State) → Covers (slotStored s) (storedOf st k)
-slot-covers In.head st = tt
-slot-covers In.taxpayer st = tt
-slot-covers In.domicile st = tt
-slot-covers (In.line x h) st = tt
-slot-covers (In.balance x h) st = balance-covers x (sectionSums st x) (sectionAt x .totals)
-slot-covers In.payment st = (refl, refl, tt)
-slot-covers In.tail st = (refl, refl, (refl, refl, (refl, refl, tt)))

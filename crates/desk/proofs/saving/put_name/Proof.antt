@@ -1,9 +1,9 @@
--- `f24_correct::put_name` meets its contract: the name lies within the room, whose length no put changes.
+-- `desk::saving::put_name` meets its contract: the name lies within the room, whose length no put changes.
 use mathlib.Core.Path.{sym}
 use lib.Seq.{length-take-le}
 use borrow.Author.Needs.{needs}
-use Rattle.f24_correct.proofs.put_name.Statement.{statement}
-use Rattle.f24_correct.proofs.put_name.Tie as tie
+use Rattle.desk.proofs.saving.put_name.Statement.{statement}
+use Rattle.desk.proofs.saving.put_name.Tie as tie
 
 returns : tie.Need-returns
 returns c = search needs

@@ -1,0 +1,24 @@
+-- For theorems. Which indexes of a record lie in some of its fields, and the fields of a balance record.
+use Prim.Native.Nat.{ℕ, _+_}
+use mathlib.Core.Bool.{Bool, true, false, cond}
+use mathlib.Core.List.{List, [], _∷_}
+use lib.Dec.{ltb, leb}
+use Rattle.layout.specs.declared.Field.{Field}
+use Rattle.layout.specs.Sections.{sectionAt}
+use Rattle.layout.specs.Fields.{amountAt}
+
+-- An index of a record lies in one of these fields.
+unfoldable pub inColumns : ℕ → List Field → Bool
+inColumns i [] = false
+inColumns i (f ∷ fs) = cond (cond (leb (f .start) i) (ltb i (f .end)) false) true (inColumns i fs)
+
+-- The sign and the balance of section s in its balance record.
+abbrev pub signAndBalance : ℕ → List Field
+signAndBalance s = record { start = sectionAt s .sign; end = sectionAt s .sign + 1 } ∷ amountAt (sectionAt s .balance) ∷ []
+
+-- The totals before them, where it has some.
+abbrev pub balanceColumns : ℕ → List Field
+balanceColumns s =
+    cond (sectionAt s .totals)
+    (amountAt (sectionAt s .«total_debit») ∷ amountAt (sectionAt s .«total_credit») ∷ signAndBalance s)
+    (signAndBalance s)
