@@ -359,7 +359,8 @@ fn more_than_546_records() {
     let flow = whole(&deleghe);
     assert_eq!(flow.len(), 65_520);
     assert_written(&sheet(&deleghe), &flow);
-    deleghe[107] = &[(1, &[(1, 0); 6])];
+    let long: &[Built] = &[(1, &[(1, 0); 6])];
+    deleghe[107] = long;
     let bytes = sheet(&deleghe).bytes();
     assert_eq!(asked(&bytes, 65_520), Err(refused(25, 0, 0)));
     assert_eq!(asked(&bytes, 65_639), Err(refused(25, 0, 0)));
