@@ -507,14 +507,18 @@ fn bend(rng: &mut Rng, record: &mut [u8], start: usize, width: usize) -> u64 {
     new.wrapping_sub(old)
 }
 
-fn wrong_name(rng: &mut Rng, flow: &mut Flow) {
-    // Now and then beside the name, where it may stand.
-    let place = match rng.below(12) {
+/// A place in the name, or now and then beside it, where any character may stand.
+pub fn name_place(rng: &mut Rng) -> usize {
+    match rng.below(12) {
         0 => NAME - 2,
         1 => NAME - 1 + NAME_WIDTH,
         2 | 3 => rng.pick(&[NAME - 1, NAME - 2 + NAME_WIDTH]),
         _ => NAME - 1 + rng.place(NAME_WIDTH),
-    };
+    }
+}
+
+fn wrong_name(rng: &mut Rng, flow: &mut Flow) {
+    let place = name_place(rng);
     let byte = rng.pick(b"//::.0;9X ");
     let head = find(rng, flow, |kind| kind == Head);
     let tail = find(rng, flow, |kind| kind == Tail);

@@ -479,12 +479,7 @@ fn non_digit(rng: &mut Rng, sheet: &mut Sheet) {
 
 /// "/" and ":" in the head's name, beside it, or in the tail's.
 fn wrong_name(rng: &mut Rng, sheet: &mut Sheet) {
-    let place = match rng.below(12) {
-        0 => NAME - 2,
-        1 => NAME - 1 + NAME_WIDTH,
-        2 | 3 => rng.pick(&[NAME - 1, NAME - 2 + NAME_WIDTH]),
-        _ => NAME - 1 + rng.place(NAME_WIDTH),
-    };
+    let place = damage::name_place(rng);
     let byte = rng.pick(b"////::::.0;9");
     let which = rng.below(6);
     for (slot, here) in [(Head, which != 0), (Tail, which < 2)] {
