@@ -18,7 +18,7 @@ use Rattle.layout.specs.declared.Kind.{Kind}
 use Rattle.layout.specs.declared.Kind.the-variants.{Line, Balance, Payment, Tail}
 use Rattle.layout.specs.Sections.{sectionAt}
 use Rattle.layout.specs.Kinds.{kindIn}
-use Rattle.layout.specs.Fields.{amountAt, delegaNumber, finalBalance, tailSum, valueOf}
+use Rattle.layout.specs.Fields.{amountAt, delegaNumber, finalBalance, tailSum, valueOf, inColumns}
 use Rattle.rules.specs.declared.State.{State}
 use Rattle.amounts.specs.declared.Outcome.the-variants.{Pass}
 use Rattle.rules.specs.State.{startState}
@@ -30,7 +30,7 @@ use Rattle.judge.specs.Plain.{NoFault, Whole, stateAfter}
 use Rattle.judge.proofs.Accepted.{accepted-means-no-fault, carried-number}
 use Rattle.rebalance.specs.Rebalance.{putAll, emit, rebalanced, Sized, flat}
 use Rattle.layout.proofs.InTable.{line-within}
-use Rattle.rebalance.specs.Places.{inColumns, balanceColumns}
+use Rattle.rebalance.specs.Places.{balanceColumns}
 use Rattle.rebalance.proofs.Outside.{outside, put-outside, covers-clear, balance-covers}
 use Rattle.rebalance.proofs.Columns.{Storing, plain, balance, payment, tail, storing}
 use Rattle.rebalance.proofs.Emit.{kept-each, emit-same-stored, emit-plain, emit-outside, fault-kept, emit-own}

@@ -9,9 +9,9 @@ use Rattle.layout.specs.declared.Kind.{Kind}
 use Rattle.layout.specs.declared.Kind.the-variants.{Head, Taxpayer, Domicile, Line, Balance, Payment, Receipt, Addressee, Tail, Unknown}
 use Rattle.layout.specs.Sections.{sectionAt}
 use Rattle.layout.specs.Kinds.{kindIn}
-use Rattle.layout.specs.Fields.{amountAt, delegaNumber, finalBalance, tailSum, valueOf}
+use Rattle.layout.specs.Fields.{amountAt, delegaNumber, finalBalance, tailSum, valueOf, inColumns}
 use Rattle.judge.specs.Flow.{recordsOf}
-use Rattle.rebalance.specs.Places.{inColumns, balanceColumns}
+use Rattle.rebalance.specs.Places.{balanceColumns}
 use Rattle.find.specs.Line.{lineOf}
 use Rattle.correct.specs.Correction.{sectionOf}
 

@@ -4,3 +4,4 @@ pub mod OtherKinds
 pub mod Spelled
 pub mod InTable
 pub mod Amounts
+pub mod InOrder

@@ -1,7 +1,8 @@
--- Believed; `listed` and `Within` serve inner functions. The numeric fields of each kind of record, in the order of position, and what they hold.
+-- Believed; `listed` and `Within` serve inner functions, `inColumns` theorems. The numeric fields of each kind of record, in the order of position, and what they hold.
 use Prim.Native.Nat.{ℕ, _+_, _-_, _≤_}
 use mathlib.Core.Bool.{Bool, true, false, cond}
 use mathlib.Core.List.{List, [], _∷_, _++_}
+use lib.Dec.{ltb, leb}
 use lib.ListN.{length, take, drop, replicate}
 use Rattle.text.specs.Numbers.{numberOf, amountOf}
 use Rattle.layout.specs.declared.Field.{Field}
@@ -81,3 +82,8 @@ pub record Within (f : Field) : Type 0 where
   pub forward : f .start ≤ f .end
   pub inside : f .end ≤ 120
   pub narrow : f .end ≤ f .start + 15
+
+-- an index of a record lies in one of these fields
+unfoldable pub inColumns : ℕ → List Field → Bool
+inColumns i [] = false
+inColumns i (f ∷ fs) = cond (cond (leb (f .start) i) (ltb i (f .end)) false) true (inColumns i fs)

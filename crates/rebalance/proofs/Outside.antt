@@ -12,11 +12,11 @@ use Rattle.text.specs.Placing.{putAt}
 use Rattle.text.proofs.Puts.{put-byte-before, put-byte-after}
 use Rattle.layout.specs.declared.Field.{Field}
 use Rattle.layout.specs.Sections.{sectionAt}
-use Rattle.layout.specs.Fields.{amountAt}
+use Rattle.layout.specs.Fields.{amountAt, inColumns}
 use Rattle.amounts.specs.declared.Sums.{Sums}
 use Rattle.rules.specs.Stored.{Stored, Value, storedBalance}
 use Rattle.rebalance.specs.Rebalance.{clear, startOf, widthOf}
-use Rattle.rebalance.specs.Places.{inColumns, signAndBalance}
+use Rattle.rebalance.specs.Places.{signAndBalance}
 
 -- An index lies before or behind a field.
 abbrev pub Beside : ℕ → Field → Type 0

@@ -1,16 +1,10 @@
--- For theorems. Which indexes of a record lie in some of its fields, and the fields of a balance record.
+-- For theorems. The fields of a balance record.
 use Prim.Native.Nat.{ℕ, _+_}
-use mathlib.Core.Bool.{Bool, true, false, cond}
+use mathlib.Core.Bool.{cond}
 use mathlib.Core.List.{List, [], _∷_}
-use lib.Dec.{ltb, leb}
 use Rattle.layout.specs.declared.Field.{Field}
 use Rattle.layout.specs.Sections.{sectionAt}
 use Rattle.layout.specs.Fields.{amountAt}
-
--- An index of a record lies in one of these fields.
-unfoldable pub inColumns : ℕ → List Field → Bool
-inColumns i [] = false
-inColumns i (f ∷ fs) = cond (cond (leb (f .start) i) (ltb i (f .end)) false) true (inColumns i fs)
 
 -- The sign and the balance of section s in its balance record.
 abbrev pub signAndBalance : ℕ → List Field

@@ -2,6 +2,7 @@ pub mod Bytes
 pub mod Allowed
 pub mod Extremes
 pub mod Numerals
+pub mod NonDigits
 pub mod Puts
 pub mod Fits
 pub mod Writing

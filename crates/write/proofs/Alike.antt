@@ -13,10 +13,10 @@ use lib.Seq.{ext-getD, getD-take, getD-drop}
 use Rattle.text.specs.Placing.{putAt}
 use Rattle.text.proofs.Puts.{length-put, put-here}
 use Rattle.layout.specs.declared.Field.{Field}
+use Rattle.layout.specs.Fields.{inColumns}
 use Rattle.rules.specs.Stored.{Stored}
 use Rattle.rebalance.specs.Rebalance.{putAll, clear, startOf, widthOf, textOf}
 use Rattle.rebalance.proofs.Written.{byte-of, both-true, laid, length-text, length-putAll, putAll-clear}
-use Rattle.rebalance.specs.Places.{inColumns}
 use Rattle.rebalance.proofs.Outside.{Beside, off-all, put-off, Covers, covers-clear}
 
 -- Two records of 120 bytes are alike outside these columns.

@@ -13,7 +13,7 @@ use Rattle.layout.specs.declared.Kind.{Kind}
 use Rattle.layout.specs.declared.Kind.the-variants.{Balance, Tail}
 use Rattle.layout.specs.Sections.{sectionAt}
 use Rattle.layout.specs.Kinds.{kindIn, numbered}
-use Rattle.layout.specs.Fields.{delegaNumber, tailDeleghe, tailSum, tailRecords, supportName}
+use Rattle.layout.specs.Fields.{delegaNumber, tailDeleghe, tailSum, tailRecords, supportName, inColumns}
 use Rattle.rules.specs.declared.State.{State}
 use Rattle.rules.specs.State.{startState}
 use Rattle.rules.specs.Stored.{storedOf}
@@ -32,7 +32,6 @@ use Rattle.sheet.proofs.FilledRecords.{slot-laid, length-number, length-name, l
 use Rattle.write.specs.declared.Writing.the-variants.{Written}
 use Rattle.write.specs.Writing.{nameIn, writingOf, flowOf}
 use Rattle.write.specs.WhenRefused.{entriesIn, NoEntryFault, MayBeWritten}
-use Rattle.rebalance.specs.Places.{inColumns}
 use Rattle.write.specs.Effect.{filledColumns, entryAt, Carries, madeColumns}
 use Rattle.write.proofs.Refusals.{written-exactly}
 use Rattle.write.proofs.Mended.{passes-kind}
@@ -87,7 +86,7 @@ module _ (k : Kind) (r : List ℕ) (l : length r ≡ 120) (i : ℕ) where
 -- A name of 20 characters, and records to be written.
 module _ (name : List ℕ) (n : length name ≡ 20) where
   -- What is filled leaves every other byte.
-  filled-byte : (e : Entry) → Entered e → (i : ℕ) → inColumns i (filledColumns (e .slot)) ≡ false → getD (filled name e) i 0 ≡ getD (e .bytes) i 0
+  pub filled-byte : (e : Entry) → Entered e → (i : ℕ) → inColumns i (filledColumns (e .slot)) ≡ false → getD (filled name e) i 0 ≡ getD (e .bytes) i 0
   unfolding filled
   filled-byte e a i h =
       let s = spared (a .in-slot) i h in
@@ -116,7 +115,7 @@ module _ (name : List ℕ) (n : length name ≡ 20) where
   records-kind st (e ∷ es) a p (suc k) h = records-kind (next st (filled name e)) es (a .1) (p .1) k (omega arith)
 
 -- What holds of each of a list holds of the one at a place in it.
-all-at : {A : Type 0} (P : A → Type 0) (d : A) (xs : List A) → All P xs → (k : ℕ) → k < length xs → P (getD xs k d)
+pub all-at : {A : Type 0} (P : A → Type 0) (d : A) (xs : List A) → All P xs → (k : ℕ) → k < length xs → P (getD xs k d)
 all-at P d [] a k h = absurd (omega arith)
 all-at P d (x ∷ xs) a zero h = a .0
 all-at P d (x ∷ xs) a (suc k) h = all-at P d xs (a .1) k (omega arith)

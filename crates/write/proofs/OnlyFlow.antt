@@ -10,6 +10,7 @@ use lib.Seq.{ext-getD, length-take-le}
 use Rattle.text.specs.Numbers.{digitsOf}
 use Rattle.layout.specs.declared.Kind.the-variants.{Head}
 use Rattle.layout.specs.Kinds.{kindIn, numbered}
+use Rattle.layout.specs.Fields.{inColumns}
 use Rattle.amounts.specs.declared.Outcome.the-variants.{Pass}
 use Rattle.rules.specs.declared.State.{State}
 use Rattle.rules.specs.State.{startState}
@@ -30,7 +31,6 @@ use Rattle.sheet.proofs.SlotExactly.{slot-exactly}
 use Rattle.write.specs.declared.Writing.the-variants.{Written}
 use Rattle.write.specs.Writing.{nameIn, entryFault, writingOf, flowOf}
 use Rattle.write.specs.WhenRefused.{entriesIn, NoEntryFault, MayBeWritten}
-use Rattle.rebalance.specs.Places.{inColumns}
 use Rattle.write.specs.Effect.{filledColumns, entryAt, Carries, Demanded}
 use Rattle.write.proofs.Refusals.{written-exactly}
 use Rattle.write.proofs.WrittenFlow.{entries-in, name-length, length-written, written-length, written-accepted}

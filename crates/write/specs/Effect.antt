@@ -1,4 +1,4 @@
--- For theorems. What the flow written from a sheet is measured by: sums of amounts as they are keyed, and the columns that are filled.
+-- For theorems. What the flow written from a sheet is measured by: sums of amounts as they are keyed, the columns that are filled, and the numeric fields that are keyed.
 use Prim.Native.Nat.{ℕ, _+_, _≤_, _<_}
 use mathlib.Core.Path.{_≡_}
 use mathlib.Core.Bool.{false, cond}
@@ -9,11 +9,11 @@ use Rattle.layout.specs.declared.Field.{Field}
 use Rattle.layout.specs.declared.Kind.{Kind}
 use Rattle.layout.specs.declared.Kind.the-variants.{Head, Taxpayer, Domicile, Line, Balance, Payment, Receipt, Addressee, Tail, Unknown}
 use Rattle.layout.specs.Kinds.{ofLine, kindIn}
-use Rattle.layout.specs.Fields.{columns, valueOf}
+use Rattle.layout.specs.Fields.{columns, creationDate, valueOf, inColumns}
 use Rattle.judge.specs.declared.Verdict.the-variants.{Accepted}
 use Rattle.judge.specs.Flow.{recordsOf, judged}
-use Rattle.judge.specs.Plain.{Side, columnOf}
-use Rattle.rebalance.specs.Places.{inColumns, balanceColumns}
+use Rattle.judge.specs.Plain.{Side, Debit, Credit, columnOf}
+use Rattle.rebalance.specs.Places.{balanceColumns}
 use Rattle.sheet.specs.Sheet.{Entry, entry}
 use Rattle.sheet.specs.Contents.{IsSheet}
 use Rattle.write.specs.WhenRefused.{entriesIn}
@@ -43,6 +43,19 @@ filledColumns Receipt = columns 4 10 ∷ []
 filledColumns Addressee = columns 4 10 ∷ []
 filledColumns Tail = columns 20 39 ∷ columns 46 52 ∷ columns 53 67 ∷ columns 83 89 ∷ []
 filledColumns Unknown = []
+
+-- The numeric fields that are keyed, those that the writer does not fill: the date, and the amounts of a line.
+abbrev pub keyedFields : Kind → List Field
+keyedFields Head = creationDate ∷ []
+keyedFields Taxpayer = []
+keyedFields Domicile = []
+keyedFields (Line x) = columnOf Debit x ∷ columnOf Credit x ∷ []
+keyedFields (Balance x) = []
+keyedFields Payment = []
+keyedFields Receipt = []
+keyedFields Addressee = []
+keyedFields Tail = []
+keyedFields Unknown = []
 
 -- In a balance record that is made, type and subtype stand besides.
 abbrev pub madeColumns : ℕ → List Field
