@@ -217,7 +217,7 @@ refused("own-13-before-9", wrong, (1, 5, 1), (0, 0), no(13, 6, 46), JUDGED)
 refused("own-13-before-14", wrong, (1, 5, 2), (0, 10001), no(13, 6, 46), JUDGED)
 refused("own-13-where-all-else-is-right", wrong, (1, 5, 1), (10000, 0), no(13, 6, 46), JUDGED)
 refused("own-10-that-the-line-would-mend", plain().put(4, 29, "000000000010001"), (1, 5, 1), (10000, 0), no(10, 6, 15), JUDGED)
-refused("own-7-that-the-line-would-mend", plain().put(4, 29, "00000000010000 "), (1, 5, 1), (10000, 0), no(7, 4, 29), JUDGED)
+refused("own-7-that-the-line-would-mend", plain().put(4, 29, "00000000010000 "), (1, 5, 1), (10000, 0), no(7, 4, 43), JUDGED)
 refused("own-9-with-its-place", flow(delega(regioni=[(0, 0), (5, 0)])), (1, 5, 1), (5, 0), no(9, 4, 29), JUDGED)
 refused("own-14-with-its-place", flow(delega(erario=[(7499, 0)], regioni=[(2500, 0), (0, 10000)])), (1, 1, 1), (7500, 0),
         no(14, 9, 2), JUDGED)

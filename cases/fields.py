@@ -25,19 +25,25 @@ NUMERIC = [
     (18, "40-18", [(4, 10), (44, 58)]),
     (20, "ef", [(46, 52), (53, 67), (83, 89)]),
 ]
+OWN = "02, Ask 5: 7 names the first non-digit's own position, in every kind of record"
 for number, kind, fields in NUMERIC:
     for first, last in fields:
-        why = "01, refusal 7: non-digit in a numeric field, at the field's start"
-        case("digit-%s-%d-first" % (kind, first), no(7, number, first), full().put(number, first, "/"), why)
-        case("digit-%s-%d-last" % (kind, first), no(7, number, first), full().put(number, last, ":"), why)
+        middle = first + 3
+        case("digit-%s-%d-first" % (kind, first), no(7, number, first), full().put(number, first, "/"), OWN)
+        case("digit-%s-%d-middle" % (kind, first), no(7, number, middle), full().put(number, middle, " "), OWN)
+        case("digit-%s-%d-last" % (kind, first), no(7, number, last), full().put(number, last, ":"), OWN)
+        case("digit-%s-%d-two" % (kind, first), no(7, number, first + 1), full().put(number, first + 1, "x").put(number, last, "y"), OWN)
 
-case("digit-blank-end", no(7, 4, 29), plain().put(4, 29, "00000000000750 "),
-     "01, Examples: debit '00000000000750 ' gives 7 at 29")
-for word, text in (("blanks", " " * 15), ("lead-blanks", "          10000"), ("one-blank-inside", "00000000 010000"),
-                   ("minus", "-00000000010000"), ("plus", "+00000000010000"), ("comma", "000000000100,00"),
-                   ("letter-o", "00000000001OOOO"), ("exponent", "0000000000001E4"), ("hexadecimal", "0x0000000002710"),
-                   ("all-letters", "DIECIMILACENTES"), ("tilde", "~~~~~~~~~~~~~~~")):
-    case("digit-" + word, no(7, 4, 29), plain().put(4, 29, text), "01: a numeric field holds digits only")
+case("digit-blank-end", no(7, 4, 43), plain().put(4, 29, "00000000000750 "),
+     "02, Ask 5: the run case of 01 (debit '00000000000750 ') becomes 7 at 43")
+for word, text, position in (
+        ("blanks", " " * 15, 29), ("lead-blanks", "          10000", 29), ("one-blank-inside", "00000000 010000", 37),
+        ("minus", "-00000000010000", 29), ("plus", "+00000000010000", 29), ("comma", "000000000100,00", 41),
+        ("letter-o", "00000000001OOOO", 40), ("exponent", "0000000000001E4", 42), ("hexadecimal", "0x0000000002710", 30),
+        ("all-letters", "DIECIMILACENTES", 29), ("tilde", "~~~~~~~~~~~~~~~", 29), ("trailing-blanks", "10000          ", 34)):
+    case("digit-" + word, no(7, 4, position), plain().put(4, 29, text), "01: a numeric field holds digits only; " + OWN)
+for position in range(29, 44):
+    case("digit-debit-at-%d" % position, no(7, 5, position), plain().put(5, position, "-"), OWN)
 case("blank-credit", no(7, 4, 44), plain().put(4, 44, " " * 15),
      "01, Errors that would look right: taking a blank amount as zero")
 case("blank-debit", no(7, 5, 29), plain().put(5, 29, " " * 15),
@@ -54,7 +60,7 @@ case("number-blank-10", no(7, 2, 4), plain().put(2, 4, "      1"), "01: leading 
 case("number-blank-50-02", no(7, 13, 4), full().put(13, 4, " " * 7), "Decision: 7 at 4 also in 50-02")
 case("number-blank-50-03", no(7, 14, 4), full().put(14, 4, " " * 7), "Decision: 7 at 4 also in 50-03")
 case("date-blank", no(7, 1, 14), plain(date="      "), "01: the creation date is a numeric field")
-case("date-iso", no(7, 1, 14), plain(date="25-6-1"), "01: the creation date is a numeric field")
+case("date-iso", no(7, 1, 16), plain(date="25-6-1"), "01: the creation date is a numeric field; " + OWN)
 
 # The first such field goes by position.
 case("digit-two-in-line", no(7, 4, 29), plain().put(4, 29, " " * 30), "01, refusal 7: the first such field")
@@ -67,6 +73,16 @@ case("digit-all-in-balance", no(7, 6, 15), plain().put(6, 15, " " * 30).put(6, 4
 case("digit-ef-53-and-83", no(7, 8, 53), plain().put(8, 53, "A").put(8, 83, "A"), "Decision: by position 46, 53, 83")
 case("digit-ef-46-and-83", no(7, 8, 46), plain().put(8, 46, "A").put(8, 83, "A"), "Decision: by position 46, 53, 83")
 case("digit-ef-all", no(7, 8, 46), plain().put(8, 46, " " * 44), "Decision: by position 46, 53, 83")
+
+# So a field that goes wrong at its end comes before one that goes wrong at its start.
+LATE = "02, Ask 5: the first non-digit of the first such field, which goes by position"
+case("digit-number-end-and-debit", no(7, 4, 10), plain().put(4, 10, "A").put(4, 29, "A"), LATE)
+case("digit-debit-end-and-credit", no(7, 4, 43), plain().put(4, 43, "A").put(4, 44, "A"), LATE)
+case("digit-total-end-and-credit", no(7, 6, 29), plain().put(6, 29, "A").put(6, 30, "A").put(6, 46, "A"), LATE)
+case("digit-total-credit-end-and-sign", no(7, 6, 44), plain().put(6, 44, "-").put(6, 45, "-").put(6, 46, "-"), LATE)
+case("digit-ef-46-end-and-53", no(7, 8, 52), plain().put(8, 52, "A").put(8, 53, "A"), LATE)
+case("digit-ef-53-end-and-83", no(7, 8, 67), plain().put(8, 67, "A").put(8, 83, "A"), LATE)
+case("digit-ef-83-beside-68", no(7, 8, 84), plain().put(8, 68, " " * 15).put(8, 84, "A"), "01: other fields are not read; " + OWN)
 
 # --- 8: delega numbers ------------------------------------------------------------------------------------------------
 for number, kind, wrong in [(2, "10", "0000002"), (3, "20", "0000002"), (4, "40-01", "0000002"), (5, "40-02", "0000002"),
@@ -98,10 +114,10 @@ for date in ("000625", "320625", "990625", "100025", "101325", "109925", "000000
     case("bad-date-" + date, no(17, 1, 14), plain(date=date), "01, F4: the day is 01 to 31 and the month 01 to 12")
 case("date-year-first", no(17, 1, 14), plain(date="991231"), "01, F4: day, month, two-digit year")
 case("date-us-order", no(17, 1, 14), plain(date="063125"), "01, F4: day, month, two-digit year")
-case("head-7-before-16", no(7, 1, 14), plain(date="1O0625", name="A/B"), "01: 7 before 16")
+case("head-7-before-16", no(7, 1, 15), plain(date="1O0625", name="A/B"), "01: 7 before 16")
 case("head-16-before-17", no(16, 1, 20), plain(date="320625", name="A/B"),
      "01: 16 before 17, although the date stands first")
-case("head-7-before-17", no(7, 1, 14), plain(date="32 625"), "01: 7 before 17")
+case("head-7-before-17", no(7, 1, 16), plain(date="32 625"), "01: 7 before 17")
 
 # --- 16, 18, 19, 20: the tail -----------------------------------------------------------------------------------------
 case("tail-name-first", no(16, 8, 20), plain().put(8, 20, "X"), "01, Name: the tail's equals the head's")

@@ -124,18 +124,25 @@ refused("6-before-23", least("erario", [(MOST, 0)] * 7), no(6, 10, 11), "02: the
 
 # --- 7 ----------------------------------------------------------------------------------------------------------------
 BLANK = "01: a numeric field holds digits only: blank is not zero"
+OWN = "02, Ask 5: 7 names the first non-digit's own position, in the sheets of Ask 1 too"
 for name, (debit, credit) in AT.items():
-    refused("7-debit-%s" % name, least(name).put(name, debit + 14, " "), no(7, 4, debit), BLANK)
+    refused("7-debit-%s" % name, least(name).put(name, debit + 14, " "), no(7, 4, debit + 14), OWN)
     refused("7-credit-%s" % name, least(name).put(name, credit, " " * 15), no(7, 4, credit), BLANK)
-refused("7-printed-example", plain().put("regioni", 29, "00000000000750 "), no(7, 4, 29),
-        "01, Examples: a 40-05 with debit 00000000000750 and a blank gives 7 at 29")
-refused("7-debit-before-credit", least().put("regioni", 44, "x").put("regioni", 43, "x"), no(7, 4, 29),
-        "01, Refusals: the start of the first such field")
+    refused("7-credit-end-%s" % name, least(name).put(name, credit + 14, "x"), no(7, 4, credit + 14), OWN)
+    refused("7-two-in-%s" % name, least(name).put(name, debit + 7, "x").put(name, debit + 9, "y").put(name, credit, "z"), no(7, 4, debit + 7), OWN)
+for position in range(44, 59):
+    refused("7-credit-at-%d" % position, plain().put("regioni", position, ".", place=2), no(7, 5, position), OWN)
+refused("7-printed-example", plain().put("regioni", 29, "00000000000750 "), no(7, 4, 43),
+        "02, Ask 5: the run case of 01 (debit 00000000000750 and a blank) becomes 7 at 43")
+refused("7-debit-before-credit", least().put("regioni", 44, "x").put("regioni", 43, "x"), no(7, 4, 43), OWN)
 refused("7-before-9", least("regioni", [(0, 0)]).put("regioni", 44, "-"), no(7, 4, 44), "01, Refusals: in the order of their numbers")
 refused("7-second-line", plain().put("regioni", 44, "/", place=2), no(7, 5, 44), BLANK)
 for word, text in (("blank", " "), ("slash", "/"), ("colon", ":")):
-    refused("7-date-%s" % word, least().put("F4", 19, text), no(7, 1, 14), BLANK)
+    refused("7-date-%s" % word, least().put("F4", 19, text), no(7, 1, 19), OWN)
+for position in range(14, 20):
+    refused("7-date-at-%d" % position, least().put("F4", position, "O"), no(7, 1, position), OWN)
 written("7-never-in-what-is-filled", least().key("x"), LEAST, "Decision: what is filled is taken as right, 7 included")
+refused("7-behind-what-is-filled", least().key("x").put("regioni", 31, "x"), no(7, 4, 31), "Decision: what is filled is taken as right, 7 included; " + OWN)
 
 # --- 9 ----------------------------------------------------------------------------------------------------------------
 RULE = "01, Lines: the debit must be above zero if the credit is zero"
@@ -170,7 +177,7 @@ refused("16-although-the-tail-agrees", least().put("F4", 25, "/").put("EF", 20, 
 for word, text in (("day-00", "000625"), ("day-32", "320125"), ("month-00", "100025"), ("month-13", "101325")):
     refused("17-" + word, least().put("F4", 14, text), no(17, 1, 14), "01: valid when the day is 01 to 31 and the month 01 to 12")
 refused("16-before-17", least().put("F4", 14, "009925").put("F4", 39, ":"), no(16, 1, 20), "01, Refusals: in the order of their numbers")
-refused("7-before-16", least().put("F4", 14, "0099 5").put("F4", 39, ":"), no(7, 1, 14), "01, Refusals: in the order of their numbers")
+refused("7-before-16", least().put("F4", 14, "0099 5").put("F4", 39, ":"), no(7, 1, 18), "01, Refusals: in the order of their numbers")
 refused("4-before-17", least().put("F4", 14, "009925").put("F4", 2, "EF"), no(4, 1, 2), "01, Refusals: in the order of their numbers")
 tail_date = least().put("EF", 14, "9/9:99")
 tail_date.flow.put(7, 14, "9/9:99")
@@ -196,7 +203,7 @@ refused("3-in-the-tail-before-23", least("regioni", TOO).put("EF", 120, "\n"), n
 refused("4-in-the-tail-before-23", least("regioni", TOO).put("EF", 2, "eF"), no(4, 8, 2), LAST)
 refused("4-at-50-01-before-23", least("regioni", TOO).put("50-01", 11, "03"), no(4, 7, 11), LAST)
 refused("9-before-23", least("ident", [*TOO, (0, 0)]), no(9, 6, 41), LAST)
-refused("7-before-23", sheet(delega(ident=TOO), delega(inps=[(1, 0)])).put("inps", 60, "y", delega=2), no(7, 10, 52), LAST)
+refused("7-before-23", sheet(delega(ident=TOO), delega(inps=[(1, 0)])).put("inps", 60, "y", delega=2), no(7, 10, 60), LAST)
 refused("4-by-the-order-before-23", sheet(delega(erario=TOO), delega()), no(4, 10, 2), LAST)
 refused("17-before-23", least("erario", TOO).put("F4", 14, "320101"), no(17, 1, 14), LAST)
 refused("24-before-23", least("erario", TOO).add(b" "), no(24, 0, 0), LAST)

@@ -80,7 +80,33 @@ pub const KINDS: [Kind; 17] = [
     Tail,
 ];
 
+/// What a numeric field holds.
+#[derive(Clone, Copy, PartialEq, Eq, Debug)]
+pub enum Holds {
+    Number,
+    Date,
+    /// A line's debit or credit.
+    Amount,
+    /// A total, a balance or a final balance.
+    Sum,
+    /// A count or the sum of the tail.
+    Tail,
+}
+
+pub const HOLDS: [Holds; 5] = [Holds::Number, Holds::Date, Holds::Amount, Holds::Sum, Holds::Tail];
+
 impl Kind {
+    /// The kind of a record by its type and subtype.
+    pub fn of(record: &[u8]) -> Option<Kind> {
+        let same = |kind: &Kind| {
+            let named = kind.subtype().map_or(true, |number| {
+                record[SUBTYPE - 1..=SUBTYPE] == [b'0' + (number / 10) as u8, b'0' + (number % 10) as u8]
+            });
+            record[TYPE - 1..=TYPE] == kind.type_bytes() && named
+        };
+        KINDS.iter().copied().find(same)
+    }
+
     /// The section whose line or balance record this is.
     pub fn section(self) -> Option<usize> {
         match self {
@@ -132,6 +158,17 @@ impl Kind {
             }
             Payment => vec![delega, (FINAL_BALANCE, AMOUNT)],
             Tail => vec![(TAIL_DELEGHE, COUNT), (TAIL_SUM, AMOUNT), (TAIL_RECORDS, COUNT)],
+        }
+    }
+
+    /// What the numeric field that starts here holds.
+    pub fn holds(self, start: usize) -> Holds {
+        match self {
+            Head => Holds::Date,
+            Tail => Holds::Tail,
+            _ if start == DELEGA => Holds::Number,
+            Line(_) => Holds::Amount,
+            _ => Holds::Sum,
         }
     }
 }

@@ -414,26 +414,82 @@ fn misplace(rng: &mut Rng, flow: &mut Flow, any: usize) {
     }
 }
 
+/// Non-digits in a numeric field, and often in another of the same record.
+/// What the field holds is drawn first: heads and tails are few among the
+/// records, and what stands late is often hidden by a fault before it.
 fn non_digit(rng: &mut Rng, flow: &mut Flow, any: usize) {
-    for _ in 0..if rng.one_in(4) { 2 } else { 1 } {
-        let fields = flow.kinds[any].numeric();
-        let (start, width) = rng.pick(&fields);
-        let byte = if rng.one_in(3) { 32 + rng.below(95) as u8 } else { rng.pick(b" /:+-.,AOo~") };
-        let place = start - 1 + rng.place(width);
-        let record = flow.record(any);
-        if rng.one_in(6) {
-            record[start - 1..start - 1 + width].fill(byte);
-        } else if rng.one_in(6) {
-            // Leading blanks, as some programs print numbers.
-            for digit in record[start - 1..start - 1 + width - 1].iter_mut() {
-                if *digit != b'0' {
-                    break;
-                }
-                *digit = b' ';
-            }
-        } else {
-            record[place] = byte;
+    let wanted = match rng.below(16) {
+        0 | 1 => Holds::Number,
+        2 | 3 => Holds::Date,
+        4..=7 => Holds::Amount,
+        8..=11 => Holds::Sum,
+        _ => Holds::Tail,
+    };
+    let holding = |kind: Kind| kind.numeric().into_iter().filter(move |field| kind.holds(field.0) == wanted);
+    // A line too many is refused 6 before its digits are looked at.
+    let at = match line_too_many(flow).filter(|_| rng.one_in(2)) {
+        Some(at) => at,
+        None => find(rng, flow, |kind| holding(kind).next().is_some()).unwrap_or(any),
+    };
+    let all = flow.kinds[at].numeric();
+    let some: Vec<(usize, usize)> = holding(flow.kinds[at]).collect();
+    spoil(rng, flow.record(at), if some.is_empty() { &all } else { &some });
+    if all.len() > 1 && rng.one_in(3) {
+        spoil(rng, flow.record(at), &all);
+    }
+}
+
+/// The first line that is more than its section has room for.
+fn line_too_many(flow: &Flow) -> Option<usize> {
+    (0..flow.kinds.len()).find(|&at| match flow.kinds[at] {
+        Line(section) => {
+            let most = SECTIONS[section].most;
+            at >= most && flow.kinds[at - most..at].iter().all(|&kind| kind == Line(section))
         }
+        _ => false,
+    })
+}
+
+/// Puts non-digits into one of these fields: the first of them at either end
+/// or between, and often more behind it.
+pub fn spoil(rng: &mut Rng, record: &mut [u8], fields: &[(usize, usize)]) {
+    let (start, width) = rng.pick(fields);
+    let field = &mut record[start - 1..start - 1 + width];
+    let first = match rng.below(12) {
+        0 | 1 => 0,
+        2..=5 => 1 + rng.place(width - 2),
+        6..=9 => width - 1,
+        10 => {
+            field.fill(no_digit(rng));
+            return;
+        }
+        _ => {
+            blanks(rng, field);
+            return;
+        }
+    };
+    field[first] = no_digit(rng);
+    for _ in 0..rng.pick(&[0, 0, 1, 3]) {
+        field[first + rng.place(width - first)] = no_digit(rng);
+    }
+}
+
+/// Blanks for leading zeros, as some programs print numbers; or the number at
+/// the left and blanks behind it.
+fn blanks(rng: &mut Rng, field: &mut [u8]) {
+    let zeros = field[..field.len() - 1].iter().take_while(|&&digit| digit == b'0').count();
+    field[..zeros].fill(b' ');
+    if rng.one_in(2) {
+        field.rotate_left(zeros);
+    }
+}
+
+/// A printable character, seldom a digit, often one that might pass for one.
+fn no_digit(rng: &mut Rng) -> u8 {
+    if rng.one_in(3) {
+        32 + rng.below(95) as u8
+    } else {
+        rng.pick(b"  /:+-.,AOo~")
     }
 }
 

@@ -16,6 +16,7 @@ mod quick;
 mod report;
 mod rival;
 mod rng;
+mod sevens;
 mod sheet;
 mod sheet_damage;
 mod sheet_vectors;
@@ -28,6 +29,7 @@ mod writing;
 use calls::Call;
 use comparer::{Compared, Comparer, Difference};
 use rng::Rng;
+use sevens::{Character, Sevens};
 use sound::{Amounts, Pool, Size};
 use std::fs;
 use std::path::{Path, PathBuf};
@@ -169,9 +171,14 @@ fn compare(seed: u64, flows: u64, corrections: u64, sheets: u64) -> Result<(), F
     let mut seldom = false;
     let (times, answer) = writings.tally.rarest();
     let written = Some((times, format!("write {answer}")));
-    for (least, cases, full) in
-        [(judged, flows, FULL_FLOWS), (corrected, corrections, FULL_CORRECTIONS), (written, sheets, FULL_SHEETS)]
-    {
+    let (judged_at, written_at) = (shapes.sevens.rarest("judge"), writings.tally.sevens.rarest_place("write"));
+    for (least, cases, full) in [
+        (judged, flows, FULL_FLOWS),
+        (judged_at, flows, FULL_FLOWS),
+        (corrected, corrections, FULL_CORRECTIONS),
+        (written, sheets, FULL_SHEETS),
+        (written_at, sheets, FULL_SHEETS),
+    ] {
         if let Some((times, answer)) = least.filter(|_| cases > 0) {
             println!("rarest: {answer}, {times} times");
             seldom |= cases >= full && times < FEWEST;
@@ -207,6 +214,9 @@ fn flow_case(comparer: &mut Comparer, pool: &Pool, seed: u64, index: u64, shapes
     let mut rng = Rng::new(seed, 1, index);
     let flow = damage::any_flow(&mut rng, pool);
     let code = comparer.compare(&mut rng, Call::Judge, &flow)?;
+    if code == 7 {
+        shapes.sevens.count(&told(comparer, &flow, (seed, index)));
+    }
     if code == 0 {
         let room = comparer.room();
         let deleghe = room[0];
@@ -256,10 +266,22 @@ fn flow_case(comparer: &mut Comparer, pool: &Pool, seed: u64, index: u64, shapes
 fn probes(comparer: &mut Comparer, flow: &[u8], seed: u64, index: u64) -> Compared<()> {
     let mut rng = Rng::new(seed, 8, index);
     for _ in 0..4 {
-        let near = probe::probe(&mut rng, flow);
-        comparer.compare_untallied(&mut rng, &near)?;
+        let (near, known) = probe::probe(&mut rng, flow);
+        let code = comparer.compare_untallied(&mut rng, &near)?;
+        let says = known.unwrap_or(code);
+        assert!(code == says, "seed {seed}, flow {index}: a probe is answered {code}, the generator says {says}");
+        if code == 7 {
+            told(comparer, &near, (seed, index));
+        }
     }
     Ok(())
+}
+
+/// The character that all sides have just told, which must be the one that the
+/// generator says.
+fn told(comparer: &Comparer, flow: &[u8], (seed, index): (u64, u64)) -> Character {
+    sevens::told(sevens::in_flow(flow), comparer.room())
+        .unwrap_or_else(|why| panic!("seed {seed}, flow {index}: {:?} is told, {why}", &comparer.room()[..2]))
 }
 
 /// Corrections of one flow, each on what the one before left.
@@ -313,8 +335,8 @@ fn correction_case(
     Ok(())
 }
 
-/// Accepted flows by size, by deleghe and by section, and corrections made by
-/// what they changed.
+/// Accepted flows by size, by deleghe and by section, corrections made by what
+/// they changed, and flows refused 7 by the character told.
 #[derive(Default)]
 struct Shapes {
     records: [u64; 6],
@@ -323,6 +345,7 @@ struct Shapes {
     beyond_fifteen: u64,
     /// Changed nothing, changed no sign, P to N, N to P.
     corrections: [u64; 4],
+    sevens: Sevens,
 }
 
 impl Shapes {
@@ -373,6 +396,7 @@ impl Shapes {
         line("deleghe", &["1", "2-3", "4-16", "17-64", "65-108"], &self.deleghe);
         line("section used", &["01", "03", "05", "07", "17"], &self.sections);
         println!("accepted flows with a section's sum of more than fifteen digits: {}", self.beyond_fifteen);
+        self.sevens.print("judge");
     }
 }
 

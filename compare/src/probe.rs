@@ -6,16 +6,17 @@
 
 use crate::columns::{Kind::*, *};
 use crate::rng::Rng;
-use crate::sound::put;
 
-/// The flow, which was accepted, with one change.
-pub fn probe(rng: &mut Rng, accepted: &[u8]) -> Vec<u8> {
+/// The flow, which was accepted, with one change, and the number that the
+/// generator says, where it knows it.
+pub fn probe(rng: &mut Rng, accepted: &[u8]) -> (Vec<u8>, Option<u64>) {
     let mut flow = accepted.to_vec();
     let records = flow.len() / RECORD;
     let at = rng.place(records);
     let record = &mut flow[at * RECORD..(at + 1) * RECORD];
+    let mut known = None;
     match rng.below(5) {
-        0 => beside_digits(rng, record),
+        0 => known = beside_digits(rng, record),
         1 => record[edge(rng, RECORD)] = rng.pick(&[0, 31, 127, 128, 160, 255]),
         2 => wrong_number(rng, record),
         3 => one_digit(rng, &mut flow),
@@ -27,20 +28,7 @@ pub fn probe(rng: &mut Rng, accepted: &[u8]) -> Vec<u8> {
             }
         }
     }
-    flow
-}
-
-/// The kind of a record of an accepted flow.
-fn kind(record: &[u8]) -> Option<Kind> {
-    let same = |kind: &Kind| {
-        let mut subtype = [0; 2];
-        let named = kind.subtype().map_or(true, |number| {
-            put(&mut subtype, 1, 2, number);
-            record[SUBTYPE - 1..=SUBTYPE] == subtype
-        });
-        record[TYPE - 1..=TYPE] == kind.type_bytes() && named
-    };
-    KINDS.iter().copied().find(same)
+    (flow, known)
 }
 
 /// A place of so many: the first, the last, or any.
@@ -52,17 +40,20 @@ fn edge(rng: &mut Rng, places: usize) -> usize {
     }
 }
 
-/// A character that is no digit in a numeric field, mostly one beside them.
-fn beside_digits(rng: &mut Rng, record: &mut [u8]) {
-    if let Some(kind) = kind(record) {
-        let (start, width) = rng.pick(&kind.numeric());
+/// A character that is no digit in a numeric field, one that is beside them or
+/// shares bits with them; often more, in this field and in others.
+fn beside_digits(rng: &mut Rng, record: &mut [u8]) -> Option<u64> {
+    let fields = Kind::of(record)?.numeric();
+    for _ in 0..rng.pick(&[1, 1, 2, 3]) {
+        let (start, width) = rng.pick(&fields);
         record[start - 1 + edge(rng, width)] = rng.pick(b"//::;? @p~");
     }
+    Some(7)
 }
 
 /// Another digit in one place of the delega number.
 fn wrong_number(rng: &mut Rng, record: &mut [u8]) {
-    if !matches!(kind(record), Some(Head | Tail) | None) {
+    if !matches!(Kind::of(record), Some(Head | Tail) | None) {
         let digit = &mut record[DELEGA - 1 + rng.place(COUNT)];
         *digit = b'0' + (*digit - b'0' + rng.between(1, 9) as u8) % 10;
     }
@@ -73,7 +64,7 @@ fn one_digit(rng: &mut Rng, flow: &mut [u8]) {
     let lines: Vec<(usize, usize)> = flow
         .chunks_exact(RECORD)
         .enumerate()
-        .filter_map(|(at, record)| match kind(record) {
+        .filter_map(|(at, record)| match Kind::of(record) {
             Some(Line(section)) => Some((at, section)),
             _ => None,
         })

@@ -4,7 +4,7 @@
 
 use crate::columns::{Kind::*, *};
 use crate::rng::Rng;
-use crate::sound::{self, put, Amounts, DelegaPlan, Plan, Pool, SectionPlan};
+use crate::sound::{self, get, put, Amounts, DelegaPlan, Plan, Pool, SectionPlan};
 
 pub type Record = [u8; RECORD];
 
@@ -63,6 +63,42 @@ pub fn filled(slot: Kind) -> &'static [(usize, usize)] {
         Tail => &[(NAME, NAME_WIDTH), (TAIL_DELEGHE, COUNT), (TAIL_SUM, AMOUNT), (TAIL_RECORDS, COUNT)],
         _ => &[(DELEGA, COUNT)],
     }
+}
+
+/// The numeric fields that are read as they were keyed, by the slot.
+pub fn read(slot: Kind) -> Vec<(usize, usize)> {
+    match slot {
+        Head | Line(_) => slot.numeric().into_iter().filter(|field| !filled(slot).contains(field)).collect(),
+        _ => Vec::new(),
+    }
+}
+
+/// The records of the flow to be written, as the sheet's counts say: the slot
+/// of each and what was keyed, which for a balance record is nothing.
+pub fn slots(sheet: &[u8]) -> Option<Vec<(Kind, &[u8])>> {
+    let mut rest = sheet;
+    let mut front = |length: usize| {
+        let taken = rest.get(..length)?;
+        rest = &rest[length..];
+        Some(taken)
+    };
+    let mut slots = vec![(Head, front(RECORD)?)];
+    for _ in 0..get(front(3)?, 1, 3) {
+        slots.push((Payer, front(RECORD)?));
+        slots.push((Domicile, front(RECORD)?));
+        for section in 0..SECTIONS.len() {
+            let lines = get(front(2)?, 1, 2);
+            for _ in 0..lines {
+                slots.push((Line(section), front(RECORD)?));
+            }
+            if lines > 0 {
+                slots.push((Balance(section), &[]));
+            }
+        }
+        slots.push((Payment, front(RECORD)?));
+    }
+    slots.push((Tail, front(RECORD)?));
+    Some(slots)
 }
 
 /// A plan without receipts, which no sheet has.

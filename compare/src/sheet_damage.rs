@@ -5,7 +5,8 @@
 use crate::columns::{Kind::*, *};
 use crate::damage;
 use crate::rng::Rng;
-use crate::sheet::{self, filled, Part, Sheet, Size};
+use crate::sevens;
+use crate::sheet::{self, filled, read, Part, Sheet, Size};
 use crate::sound::{self, get, put, DelegaPlan, Plan, Pool, SectionPlan};
 
 /// A sheet and the length of the room for its flow.
@@ -168,6 +169,13 @@ fn damaged(rng: &mut Rng, pool: &Pool, mut plan: Plan, damages: u64) -> Case {
     let room = if aims.contains(&Aim::Room) { too_short(rng, length, bytes.len()) } else { enough(rng, length) };
     if damages == 1 && (aims[0] == Aim::Room || aims[0] == Aim::Unfit) {
         known = Some(says(&sheet.flow, room, aims[0] == Aim::Unfit));
+    }
+    if damages == 1 && aims[0] == Aim::Digit && sevens::in_sheet(&bytes).is_some() {
+        // Where there is no delega it is the date, and F4 comes before 4.
+        known = Some(match says(&sheet.flow, room, false) {
+            0 | 4 => 7,
+            other => other,
+        });
     }
     Case { sheet: bytes, room, known, flow: sheet.flow }
 }
@@ -461,18 +469,14 @@ fn move_line(rng: &mut Rng, sheet: &mut Sheet) {
     sheet.parts.swap(at, at + 1);
 }
 
+/// Non-digits in a field that is read, and often in another of the record, which
+/// may be one that is filled.
 fn non_digit(rng: &mut Rng, sheet: &mut Sheet) {
-    let head = rng.one_in(5);
+    let head = rng.one_in(3);
     if let Some((slot, record)) = any(rng, sheet, |slot| if head { slot == Head } else { matches!(slot, Line(_)) }) {
-        for _ in 0..if rng.one_in(4) { 2 } else { 1 } {
-            let (start, width) = rng.pick(&slot.numeric());
-            let byte = if rng.one_in(3) { 32 + rng.below(95) as u8 } else { rng.pick(b" /:+-.,AOo~") };
-            if rng.one_in(6) {
-                record[start - 1..start - 1 + width].fill(byte);
-            } else {
-                let place = if rng.one_in(3) { rng.pick(&[0, width - 1]) } else { rng.place(width) };
-                record[start - 1 + place] = byte;
-            }
+        damage::spoil(rng, record, &read(slot));
+        if slot != Head && rng.one_in(2) {
+            damage::spoil(rng, record, &slot.numeric());
         }
     }
 }

@@ -7,6 +7,7 @@ use crate::ffi;
 use crate::lent::{Lent, Place};
 use crate::rival::{self, WRITE_NEEDS};
 use crate::rng::Rng;
+use crate::sevens::{self, Sevens};
 use crate::sheet_damage::Case;
 use crate::sound::get;
 use std::fs;
@@ -140,6 +141,11 @@ fn unlike(case: &Case, before: &[u8], left: &Left) -> Option<String> {
             return Some(format!("the generator says {known}"));
         }
     }
+    if left.code == 7 {
+        if let Err(why) = sevens::told(sevens::in_sheet(&case.sheet), &left.answer) {
+            return Some(why);
+        }
+    }
     if way(&case.sheet, case.room, left.code).is_none() {
         return Some("both give a number that answers no sheet".to_string());
     }
@@ -199,12 +205,17 @@ pub struct Tally {
     past: u64,
     /// Answers that the generator knew.
     known: u64,
+    /// Where 7 was told.
+    pub sevens: Sevens,
 }
 
 impl Tally {
     fn count(&mut self, case: &Case, way: usize, left: &Left) {
         self.counts[way] += 1;
         self.known += u64::from(case.known.is_some());
+        if left.code == 7 {
+            sevens::in_sheet(&case.sheet).iter().for_each(|character| self.sevens.count(character));
+        }
         if left.code != 0 {
             return;
         }
@@ -238,6 +249,7 @@ impl Tally {
         line("deleghe", &["1", "2-3", "4-16", "17-64", "65-108"], &self.deleghe);
         println!("sheets written into a longer room: {}", self.past);
         println!("answers that the generator knew: {}", self.known);
+        self.sevens.print("write");
     }
 }
 

@@ -143,13 +143,14 @@ pub fn unexpected(record: &Record, last: Option<Kind>, full: bool) -> Fault {
     non_digit(record, kind).unwrap_or(fault(8, DELEGA))
 }
 
-/// "non-digit in a numeric field", at the start of the first such field.
+/// "non-digit in a numeric field", at "the first non-digit's own position", as
+/// document 02 amends it: the first in the first such field.
 #[cold]
 #[inline(never)]
 pub fn non_digit(record: &Record, kind: Kind) -> Option<Fault> {
-    let bad = |&(start, width): &(usize, usize)| !record[start - 1..start - 1 + width].iter().all(u8::is_ascii_digit);
-    let field = kind.fields().into_iter().find(bad)?;
-    Some(fault(7, field.0))
+    let mut positions = kind.fields().into_iter().flat_map(|(start, width)| start..start + width);
+    let position = positions.find(|&position| !record[position - 1].is_ascii_digit())?;
+    Some(fault(7, position))
 }
 
 /// The same of a record that has such a field.

@@ -1,6 +1,6 @@
 //! A judge for CBI F24 payment flows, written for speed, after the rules of
 //! document 01 with the columns of CBI-F24-001. Words in quotation marks are
-//! those rules'.
+//! those rules'. Refusal 7 points where document 02 has it point.
 //!
 //! The records are gone through as the grammar says: head, deleghe with
 //! sections of lines, tail. Each is compared with the few that may stand

@@ -131,8 +131,79 @@ fn the_printed_example() {
 
 #[test]
 fn a_blank_is_no_zero() {
-    assert_refused(&with(example(), 4, 29, "00000000000750 "), 7, 4, 29);
+    assert_refused(&with(example(), 4, 29, "00000000000750 "), 7, 4, 43);
+    assert_refused(&with(example(), 4, 29, "          10000"), 7, 4, 29);
+    assert_refused(&with(example(), 4, 29, "10000          "), 7, 4, 34);
     assert_refused(&with(example(), 4, 44, "               "), 7, 4, 44);
+}
+
+/// All seventeen kinds of record. Records: 1 F4; 2-14 delega 1 with the four
+/// sections, one line each, and its receipts; 15-19 delega 2 with 40-17; 20 EF.
+fn every_kind() -> Vec<u8> {
+    let mut records = vec![head(), numbered("10", 1, ""), numbered("20", 1, "")];
+    records.extend([1, 3, 5, 7].iter().flat_map(|&subtype| [line(1, subtype, (9, 0)), balance(1, subtype, 9, 0)]));
+    records.extend([payment(1, 36), numbered("50", 1, "02"), numbered("50", 1, "03")]);
+    records.extend([numbered("10", 2, ""), numbered("20", 2, ""), line(2, 17, (9, 0)), balance(2, 17, 9, 0)]);
+    records.extend([payment(2, 9), tail(2, 20, 45)]);
+    records.concat()
+}
+
+/// Its numeric fields, record by record: start and width of each.
+const FIELDS: [&[(usize, usize)]; 20] = [
+    &[(14, 6)],
+    &[(4, 7)],
+    &[(4, 7)],
+    &[(4, 7), (27, 15), (42, 15)],
+    &[(4, 7), (13, 15), (28, 15), (44, 15)],
+    &[(4, 7), (52, 15), (67, 15)],
+    &[(4, 7), (13, 15), (28, 15), (44, 15)],
+    &[(4, 7), (29, 15), (44, 15)],
+    &[(4, 7), (15, 15), (30, 15), (46, 15)],
+    &[(4, 7), (31, 15), (46, 15)],
+    &[(4, 7), (17, 15), (32, 15), (48, 15)],
+    &[(4, 7), (36, 15)],
+    &[(4, 7)],
+    &[(4, 7)],
+    &[(4, 7)],
+    &[(4, 7)],
+    &[(4, 7), (41, 15), (56, 15)],
+    &[(4, 7), (44, 15)],
+    &[(4, 7), (36, 15)],
+    &[(46, 7), (53, 15), (83, 7)],
+];
+
+#[test]
+fn the_very_character() {
+    let sound = every_kind();
+    assert_eq!(judge(&sound).map(|summary| summary.records), Ok(20));
+    for (record, fields) in (1..).zip(FIELDS) {
+        let positions: Vec<usize> = fields.iter().flat_map(|&(start, width)| start..start + width).collect();
+        for (index, &first) in positions.iter().enumerate() {
+            for text in [" ", "/", ":", "~"] {
+                let flow = with(sound.clone(), record, first, text);
+                assert_refused(&flow, 7, record, first);
+                // A second one behind it counts for nothing, in this field or
+                // in a later one.
+                for &second in &positions[index + 1..] {
+                    assert_refused(&with(flow.clone(), record, second, " "), 7, record, first);
+                }
+            }
+        }
+        for &(start, width) in fields {
+            assert_refused(&with(sound.clone(), record, start, &"x".repeat(width)), 7, record, start);
+        }
+    }
+}
+
+#[test]
+fn the_very_character_of_a_record_that_is_wrong_in_other_ways() {
+    // Another delega's number, a zero line, a wrong total, a wrong tail.
+    let number = with(example(), 4, 4, "0000009");
+    assert_refused(&with(number.clone(), 4, 58, "x"), 7, 4, 58);
+    assert_refused(&with(number, 4, 8, " "), 7, 4, 8);
+    assert_refused(&with(one(5, &[(0, 0)]), 4, 50, "x"), 7, 4, 50);
+    assert_refused(&with(with(example(), 6, 15, "999999999999999"), 6, 53, " "), 7, 6, 53);
+    assert_refused(&with(with(example(), 8, 46, "0000009"), 8, 86, " "), 7, 8, 86);
 }
 
 #[test]
@@ -207,7 +278,7 @@ fn totals_sign_and_balance() {
         assert_refused(&with(flow.clone(), record, sign_at - 15, seven), 11, record, sign_at - 15);
         assert_refused(&with(flow.clone(), record, sign_at, "N"), 12, record, sign_at);
         assert_refused(&with(flow.clone(), record, sign_at + 1, seven), 13, record, sign_at + 1);
-        assert_refused(&with(flow.clone(), record, sign_at + 1, "x"), 7, record, sign_at + 1);
+        assert_refused(&with(flow.clone(), record, sign_at + 9, "x"), 7, record, sign_at + 9);
     }
     assert_refused(&with(one(5, &[(5, 5)]), 5, 45, "N"), 12, 5, 45);
 }
@@ -217,7 +288,7 @@ fn head_and_tail() {
     for date in ["000199", "320199", "010099", "011399"] {
         assert_refused(&with(example(), 1, 14, date), 17, 1, 14);
     }
-    assert_refused(&with(example(), 1, 14, "31129a"), 7, 1, 14);
+    assert_refused(&with(example(), 1, 14, "31129a"), 7, 1, 19);
     for position in 20..40 {
         assert_refused(&with(example(), 1, position, "/"), 16, 1, 20);
         assert_refused(&with(example(), 1, position, ":"), 16, 1, 20);
@@ -226,7 +297,7 @@ fn head_and_tail() {
     assert_refused(&with(example(), 8, 46, "0000002"), 18, 8, 46);
     assert_refused(&with(example(), 8, 83, "0000007"), 19, 8, 83);
     assert_refused(&with(example(), 8, 53, "000000000007501"), 20, 8, 53);
-    assert_refused(&with(with(example(), 8, 53, " "), 8, 83, " "), 7, 8, 53);
+    assert_refused(&with(with(example(), 8, 60, " "), 8, 83, " "), 7, 8, 60);
 }
 
 // ------------------------------------------------------- words and columns
@@ -283,7 +354,7 @@ fn numbers_of_deleghe() {
     for place in 4..=10 {
         for (record, other) in [(2, "9"), (3, "9"), (4, "9"), (6, "9"), (7, "9")] {
             assert_refused(&with(example(), record, place, other), 8, record, 4);
-            assert_refused(&with(example(), record, place, "x"), 7, record, 4);
+            assert_refused(&with(example(), record, place, "x"), 7, record, place);
         }
     }
 }

@@ -38,6 +38,18 @@ pub fn fifteen(record: &Record, position: usize) -> Option<u64> {
     Some(high? * 100_000_000 + low?)
 }
 
+/// The position of the first non-digit of a field that starts at `position`
+/// and has one: "which character is wrong", in document 02's words.
+///
+/// The readers above don't say it, since they test many bytes at once; this is
+/// asked of the one field for which a flow or a sheet is refused.
+pub fn non_digit(record: &Record, position: usize) -> usize {
+    let digits = record[position - 1..]
+        .iter()
+        .take_while(|byte| byte.is_ascii_digit());
+    position + digits.count()
+}
+
 /// Writes `amount`, at most fifteen digits, with leading zeros at `position`.
 pub fn write_fifteen(record: &mut [u8], position: usize, mut amount: u64) {
     let start = position - 1;
@@ -80,8 +92,11 @@ mod tests {
             fifteen(&record_with(b"000000000007500", 29), 29),
             Some(7500)
         );
-        assert_eq!(fifteen(&record_with(b"00000000000750 ", 29), 29), None);
-        assert_eq!(fifteen(&record_with(b"               ", 29), 29), None);
+        for (field, wrong) in [(b"00000000000750 ", 43), (b"               ", 29)] {
+            let record = record_with(field, 29);
+            assert_eq!(fifteen(&record, 29), None);
+            assert_eq!(non_digit(&record, 29), wrong);
+        }
         assert_eq!(
             fifteen(&record_with(b"999999999999999", 106), 106),
             Some(999_999_999_999_999)
@@ -96,8 +111,10 @@ mod tests {
     fn the_narrow_fields() {
         assert_eq!(six(&record_with(b"311299", 14), 14), Some(311_299));
         assert_eq!(six(&record_with(b"31129a", 14), 14), None);
+        assert_eq!(non_digit(&record_with(b"31129a", 14), 14), 19);
         assert_eq!(seven(&record_with(b"9876543", 4), 4), Some(9_876_543));
         assert_eq!(seven(&record_with(b"987654+", 4), 4), None);
+        assert_eq!(non_digit(&record_with(b"987654+", 4), 4), 10);
         assert_eq!(seven(&record_with(b"9876543", 114), 114), Some(9_876_543));
     }
 
@@ -116,9 +133,32 @@ mod tests {
                     let mut record = [around; 120];
                     record[28..43].copy_from_slice(&field);
                     assert_eq!(fifteen(&record, 29), plain, "{byte} at {place}");
+                    if plain.is_none() {
+                        assert_eq!(non_digit(&record, 29), 29 + place);
+                    }
                 }
             }
         }
+    }
+
+    #[test]
+    fn of_several_non_digits_the_first_is_told() {
+        for first in 0..15 {
+            for second in first + 1..15 {
+                for bytes in [b"  ", b"x ", b" x", b"/:", b":/", b"~-"] {
+                    let mut field = *b"123456789012345";
+                    (field[first], field[second]) = (bytes[0], bytes[1]);
+                    // What stands before the field is no part of it.
+                    for around in [b' ', b'9', b'x'] {
+                        let mut record = [around; 120];
+                        record[28..43].copy_from_slice(&field);
+                        assert_eq!(non_digit(&record, 29), 29 + first);
+                    }
+                }
+            }
+        }
+        // In the last place that a field can have.
+        assert_eq!(non_digit(&record_with(b"98765432109876x", 106), 106), 120);
     }
 
     #[test]

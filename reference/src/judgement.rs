@@ -32,7 +32,8 @@ pub enum Step {
     Tail,
 }
 
-/// A refusal's number and position; the record is known to the caller.
+/// A refusal's number and position; the record is known to the caller. Fault 7
+/// has the start of its field, from which the refusal finds the character.
 #[derive(Clone, Copy, PartialEq, Eq, Debug)]
 pub struct Fault {
     pub number: u8,
@@ -288,12 +289,12 @@ fn name(record: &Record) -> [u8; NAME_WIDTH] {
     name
 }
 
-/// A seven-digit count or number, or refusal 7 at its start.
+/// A seven-digit count or number, or fault 7 at its start.
 fn count(record: &Record, position: usize) -> Result<u64, Fault> {
     seven(record, position).ok_or(fault(7, position))
 }
 
-/// A fifteen-digit amount, or refusal 7 at its start.
+/// A fifteen-digit amount, or fault 7 at its start.
 fn amount(record: &Record, position: usize) -> Result<u64, Fault> {
     fifteen(record, position).ok_or(fault(7, position))
 }

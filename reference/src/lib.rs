@@ -1,6 +1,7 @@
 //! A judge for CBI F24 payment flows, after the rules of document 01, with
 //! the columns of CBI-F24-001. Words in quotation marks are those rules'. The
-//! writer of flows from working sheets is after document 02.
+//! writer of flows from working sheets is after document 02, and so is the
+//! position of refusal 7, which 02 amends.
 //!
 //! Every input is taken, of every length and value. Sums can't overflow: a
 //! flow has at most 546 records with amounts below 10^15.
@@ -14,8 +15,8 @@ mod sheets;
 #[cfg(test)]
 mod tests;
 
-use digits::write_fifteen;
-use judgement::{Judgement, Step};
+use digits::{non_digit, write_fifteen};
+use judgement::{Fault, Judgement, Step};
 use layout::*;
 pub use sheets::write;
 // The comparison asks for more of a refusal than the command line.
@@ -38,6 +39,23 @@ impl Refusal {
             number,
             record: 0,
             position: 0,
+        }
+    }
+
+    /// The refusal of the record with this number, counted from 1.
+    ///
+    /// Document 02: "7 names the first non-digit's own position in every kind
+    /// of record and in the sheets". It is looked for here, where the judgement
+    /// has ended, so that a record that passes costs no more.
+    #[cold]
+    fn of(fault: Fault, number: usize, record: &Record) -> Self {
+        Refusal {
+            number: fault.number,
+            record: number,
+            position: match fault.number {
+                7 => non_digit(record, fault.position),
+                _ => fault.position,
+            },
         }
     }
 }
@@ -174,11 +192,9 @@ fn judge_watched(flow: &[u8], mut watch: impl FnMut(&Judgement)) -> Result<Summa
     let mut judgement = Judgement::new();
     for record in flow.chunks_exact(RECORD) {
         let record: &Record = record.try_into().expect("a chunk is a record long");
-        judgement.take(record).map_err(|fault| Refusal {
-            number: fault.number,
-            record: judgement.records,
-            position: fault.position,
-        })?;
+        judgement
+            .take(record)
+            .map_err(|fault| Refusal::of(fault, judgement.records, record))?;
         watch(&judgement);
     }
 

@@ -498,7 +498,16 @@ fn lines_beyond_the_most() {
 }
 
 #[test]
-fn digits_and_line_amounts() {
+fn line_amounts() {
+    for (subtype, debit_at) in [(1, 27), (3, 52), (5, 29), (7, 31), (17, 41)] {
+        assert_unwritten(&sheet(&[&[(subtype, &[(0, 0)])]]), 9, 4, debit_at);
+    }
+    assert_unwritten(&sheet(&[&[(17, &[(1, 0), (5, 1)])]]), 9, 5, 56);
+    assert_unwritten(&sheet(&[&[(17, &[(0, 5)])]]), 9, 4, 56);
+}
+
+#[test]
+fn the_very_character_of_a_line() {
     for (subtype, debit_at, credit_at) in [
         (1, 27, 42),
         (3, 52, 67),
@@ -506,25 +515,59 @@ fn digits_and_line_amounts() {
         (7, 31, 46),
         (17, 41, 56),
     ] {
-        let sound = sheet(&[&[(subtype, &[(1, 0)])]]);
-        for place in 0..15 {
-            assert_unwritten(
-                &sound.clone().with(4, debit_at + place, " "),
-                7,
-                4,
-                debit_at,
-            );
-            assert_unwritten(
-                &sound.clone().with(4, credit_at + place, "/"),
-                7,
-                4,
-                credit_at,
-            );
+        // The second delega's first line is the sheet's ninth record and the
+        // flow's tenth. Nothing in a filled column is looked at.
+        let lines: &[Built] = &[(subtype, &[(1, 0), (2, 0)])];
+        for keyed in [b' ', b'x', b'\n', b'7'] {
+            let sound = sheet(&[lines, lines]).keyed(keyed);
+            for place in 0..15 {
+                for start in [debit_at, credit_at] {
+                    let one = sound.clone().with(9, start + place, " ");
+                    assert_unwritten(&one, 7, 10, start + place);
+                    // Of two in a field the first.
+                    for second in place + 1..15 {
+                        let two = one.clone().with(9, start + second, "/");
+                        assert_unwritten(&two, 7, 10, start + place);
+                    }
+                }
+                // Of two fields the debit, even at its last place.
+                let both = sound.clone().with(9, debit_at + place, ":");
+                for text in ["-", "               "] {
+                    let both = both.clone().with(9, credit_at, text);
+                    assert_unwritten(&both, 7, 10, debit_at + place);
+                }
+            }
+            // Of two records the first.
+            let later = sound.clone().with(10, debit_at, " ");
+            assert_unwritten(&later.with(9, credit_at + 14, "x"), 7, 10, credit_at + 14);
         }
-        assert_unwritten(&sheet(&[&[(subtype, &[(0, 0)])]]), 9, 4, debit_at);
     }
-    assert_unwritten(&sheet(&[&[(17, &[(1, 0), (5, 1)])]]), 9, 5, 56);
-    assert_unwritten(&sheet(&[&[(17, &[(0, 5)])]]), 9, 4, 56);
+    let example = example().with(4, 29, "00000000000750 ");
+    assert_unwritten(&example, 7, 4, 43);
+}
+
+#[test]
+fn the_very_character_of_the_date() {
+    for place in 0..6 {
+        for text in [" ", "/", ":", "x"] {
+            let one = example().keyed(b' ').with(1, 14 + place, text);
+            assert_unwritten(&one, 7, 1, 14 + place);
+            for second in place + 1..6 {
+                let two = one.clone().with(1, 14 + second, " ");
+                assert_unwritten(&two, 7, 1, 14 + place);
+            }
+        }
+        // EF's date is no field.
+        assert!(asked(&example().with(7, 14 + place, " ").bytes(), AMPLE).is_ok());
+    }
+}
+
+#[test]
+fn a_count_has_no_place() {
+    // Both a count and an amount before it: the sheet is none.
+    let mut bytes = example().with(4, 29, " ").bytes();
+    bytes[612] = b' ';
+    assert_eq!(asked(&bytes, AMPLE), Err(refused(24, 0, 0)));
 }
 
 #[test]
@@ -551,7 +594,7 @@ fn names_and_dates() {
     for date in ["000199", "320199", "010099", "011399"] {
         assert_unwritten(&example().with(1, 14, date), 17, 1, 14);
     }
-    assert_unwritten(&example().with(1, 14, "0099 0"), 7, 1, 14);
+    assert_unwritten(&example().with(1, 14, "0099 0"), 7, 1, 18);
     // 7, then 16, then 17.
     let both = example().with(1, 14, "009900").with(1, 39, ":");
     assert_unwritten(&both, 16, 1, 20);

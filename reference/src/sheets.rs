@@ -141,18 +141,14 @@ impl Writer {
 
         self.judgement.records += 1;
         let at = self.judgement.records;
-        let refuse = |fault: Fault, by_slot| Unwritten {
-            refusal: Refusal {
-                number: fault.number,
-                record: at,
-                position: fault.position,
-            },
+        let refuse = |fault: Fault, record: &Record, by_slot| Unwritten {
+            refusal: Refusal::of(fault, at, record),
             by_slot,
         };
-        characters(&record).map_err(|fault| refuse(fault, false))?;
-        of_kind(slot.kind, &record).map_err(|fault| refuse(fault, true))?;
+        characters(&record).map_err(|fault| refuse(fault, &record, false))?;
+        of_kind(slot.kind, &record).map_err(|fault| refuse(fault, &record, true))?;
         self.lenient(&mut record)
-            .map_err(|fault| refuse(fault, false))?;
+            .map_err(|fault| refuse(fault, &record, false))?;
         self.flow.extend_from_slice(&record);
         Ok(())
     }

@@ -228,8 +228,12 @@ fn a_refusal_prints_one_line() {
 
 #[test]
 fn blank_is_not_zero() {
-    assert_refused(&with(example(), 4, 29, "00000000000750 "), 7, 4, 29);
+    assert_refused(&with(example(), 4, 29, "00000000000750 "), 7, 4, 43);
     assert_refused(&with(example(), 4, 44, "               "), 7, 4, 44);
+    // Leading and trailing blanks, and one between digits.
+    assert_refused(&with(example(), 4, 29, "          10000"), 7, 4, 29);
+    assert_refused(&with(example(), 4, 29, "10000          "), 7, 4, 34);
+    assert_refused(&with(example(), 4, 29, "000000000100 00"), 7, 4, 41);
 }
 
 #[test]
@@ -295,7 +299,7 @@ fn a_negative_section_and_a_negative_delega() {
     assert_refused(&negative, 14, 9, 2);
     // Whatever is stored, 14 comes after 7 and 8 and before 15.
     assert_refused(&with(negative.clone(), 9, 36, "000000000000001"), 14, 9, 2);
-    assert_refused(&with(negative.clone(), 9, 36, "00000000000000 "), 7, 9, 36);
+    assert_refused(&with(negative.clone(), 9, 36, "00000000000000 "), 7, 9, 50);
     assert_refused(&with(negative, 9, 4, "0000002"), 8, 9, 4);
 }
 
@@ -437,8 +441,8 @@ fn receipts_are_judged_by_number_alone() {
         (summary.deleghe, summary.records, summary.total),
         (3, 20, 15)
     );
-    assert_refused(&with(flow.clone(), 18, 4, "000000 "), 7, 18, 4);
-    assert_refused(&with(flow.clone(), 19, 4, "000000 "), 7, 19, 4);
+    assert_refused(&with(flow.clone(), 18, 4, "000000 "), 7, 18, 10);
+    assert_refused(&with(flow.clone(), 19, 4, "00 0000"), 7, 19, 6);
     assert_refused(&with(flow.clone(), 18, 4, "0000002"), 8, 18, 4);
     assert_refused(&with(flow.clone(), 19, 4, "0000004"), 8, 19, 4);
     assert_eq!(judge(&with(flow, 18, 13, "any other content")), Ok(summary));
@@ -452,7 +456,7 @@ fn the_first_fault_by_record_then_by_number() {
     let flow = with(one(5, &[(0, 0)]), 4, 4, "0000009");
     assert_refused(&flow, 8, 4, 4);
     assert_refused(&with(flow.clone(), 4, 44, "x"), 7, 4, 44);
-    assert_refused(&with(flow.clone(), 4, 10, "x"), 7, 4, 4);
+    assert_refused(&with(flow.clone(), 4, 10, "x"), 7, 4, 10);
     // 6 before 7.
     let flow = with(one(5, &[(1, 0); 5]), 8, 4, "x");
     assert_refused(&flow, 6, 8, 11);
@@ -471,6 +475,8 @@ fn delega_numbers() {
             assert_refused(&with(flow.clone(), record, 4, wrong), 8, record, 4);
         }
         assert_refused(&with(flow.clone(), record, 4, " 000001"), 7, record, 4);
+        assert_refused(&with(flow.clone(), record, 4, "999 999"), 7, record, 7);
+        assert_refused(&with(flow.clone(), record, 4, "000001 "), 7, record, 10);
     }
     assert_refused(&with(flow.clone(), 7, 4, "0000001"), 8, 7, 4);
     assert_refused(&with(flow, 6, 4, "0000002"), 8, 6, 4);
@@ -523,10 +529,9 @@ fn numeric_fields() {
             let field = fields.iter().find(|&&(in_record, start, width)| {
                 in_record == record && (start..start + width).contains(&position)
             });
-            // In EF the first field by position is 46, then 53, then 83.
-            let spoiled = with(flow.clone(), record, position, "x");
-            if let Some(&(_, start, _)) = field {
-                assert_refused(&spoiled, 7, record, start);
+            if field.is_some() {
+                let spoiled = with(flow.clone(), record, position, "x");
+                assert_refused(&spoiled, 7, record, position);
                 continue;
             }
             // Nor is any other byte read, but for these.
@@ -550,11 +555,114 @@ fn numeric_fields() {
 fn all_fields_are_tested_before_any_is_compared() {
     let flow = with(example(), 6, 15, "000000000000001");
     assert_refused(&flow, 10, 6, 15);
-    assert_refused(&with(flow, 6, 60, " "), 7, 6, 46);
+    assert_refused(&with(flow, 6, 60, " "), 7, 6, 60);
+    // In EF the first field by position is 46, then 53, then 83.
     let flow = with(example(), 8, 46, "0000002");
     assert_refused(&flow, 18, 8, 46);
-    assert_refused(&with(flow.clone(), 8, 89, " "), 7, 8, 83);
-    assert_refused(&with(with(flow, 8, 89, " "), 8, 53, " "), 7, 8, 53);
+    assert_refused(&with(flow.clone(), 8, 89, " "), 7, 8, 89);
+    assert_refused(&with(with(flow, 8, 83, " "), 8, 67, " "), 7, 8, 67);
+}
+
+/// Records: 1 F4; 2-14 delega 1 with the four sections, one line each, and its
+/// receipts; 15-19 delega 2 with 40-17; 20 EF.
+fn every_kind() -> Vec<u8> {
+    const LINES: &[(u64, u64)] = &[(9, 0)];
+    let (first, _) = delega_records(1, &[(1, LINES), (3, LINES), (5, LINES), (7, LINES)]);
+    let receipts = ["02", "03"].map(|subtype| numbered("50", 1, subtype));
+    let (second, _) = delega_records(2, &[(17, LINES)]);
+    let mut records = [vec![head()], first, receipts.to_vec(), second].concat();
+    records.push(tail(2, records.len() + 1, 45));
+    records.concat()
+}
+
+/// Its numeric fields, record by record: start and width of each.
+const FIELDS: [(usize, &[(usize, usize)]); 20] = [
+    (1, &[(14, 6)]),
+    (2, &[(4, 7)]),
+    (3, &[(4, 7)]),
+    (4, &[(4, 7), (27, 15), (42, 15)]),
+    (5, &[(4, 7), (13, 15), (28, 15), (44, 15)]),
+    (6, &[(4, 7), (52, 15), (67, 15)]),
+    (7, &[(4, 7), (13, 15), (28, 15), (44, 15)]),
+    (8, &[(4, 7), (29, 15), (44, 15)]),
+    (9, &[(4, 7), (15, 15), (30, 15), (46, 15)]),
+    (10, &[(4, 7), (31, 15), (46, 15)]),
+    (11, &[(4, 7), (17, 15), (32, 15), (48, 15)]),
+    (12, &[(4, 7), (36, 15)]),
+    (13, &[(4, 7)]),
+    (14, &[(4, 7)]),
+    (15, &[(4, 7)]),
+    (16, &[(4, 7)]),
+    (17, &[(4, 7), (41, 15), (56, 15)]),
+    (18, &[(4, 7), (44, 15)]),
+    (19, &[(4, 7), (36, 15)]),
+    (20, &[(46, 7), (53, 15), (83, 7)]),
+];
+
+#[test]
+fn the_very_character_in_every_field_of_every_kind_of_record() {
+    let sound = every_kind();
+    assert_eq!(judge(&sound).unwrap().records, 20);
+    for (record, fields) in FIELDS {
+        for &(start, width) in fields {
+            for place in 0..width {
+                for text in [" ", "/", ":", "x"] {
+                    let flow = with(sound.clone(), record, start + place, text);
+                    assert_refused(&flow, 7, record, start + place);
+                }
+                // Of two in a field the first, whatever each of them is.
+                for second in place + 1..width {
+                    for (one, other) in [(" ", " "), (" ", "x"), ("x", " "), (":", "/")] {
+                        let flow = with(sound.clone(), record, start + place, one);
+                        let flow = with(flow, record, start + second, other);
+                        assert_refused(&flow, 7, record, start + place);
+                    }
+                }
+            }
+            // No digit in it at all.
+            let flow = with(sound.clone(), record, start, &" ".repeat(width));
+            assert_refused(&flow, 7, record, start);
+        }
+    }
+}
+
+#[test]
+fn the_first_bad_field_by_position_counts() {
+    let sound = every_kind();
+    for (record, fields) in FIELDS {
+        for (index, &(start, width)) in fields.iter().enumerate() {
+            for &(later, later_width) in &fields[index + 1..] {
+                // Even where the later field goes wrong at its own first
+                // place, or in all of them.
+                for place in 0..width {
+                    let flow = with(sound.clone(), record, start + place, "x");
+                    for bad in [0, later_width / 2, later_width - 1] {
+                        let both = with(flow.clone(), record, later + bad, " ");
+                        assert_refused(&both, 7, record, start + place);
+                    }
+                    let both = with(flow, record, later, &" ".repeat(later_width));
+                    assert_refused(&both, 7, record, start + place);
+                }
+            }
+        }
+        // All of them, each at its last place.
+        let flow = fields.iter().fold(sound.clone(), |flow, (start, width)| {
+            with(flow, record, start + width - 1, ".")
+        });
+        let (start, width) = fields[0];
+        assert_refused(&flow, 7, record, start + width - 1);
+    }
+}
+
+#[test]
+fn the_character_is_told_by_every_call() {
+    for (record, position) in [(1, 19), (4, 41), (14, 10), (18, 51), (20, 60)] {
+        let mut flow = with(every_kind(), record, position, " ");
+        let refusal = refused(7, record, position);
+        assert_eq!(delega(&flow, 1), Err(refusal));
+        assert_eq!(find(&flow, 1, 1, 1), Err(refusal));
+        assert_eq!(correct(&mut flow, 1, 1, 1, 1, 0), Err(refusal));
+    }
 }
 
 // ---------------------------------------------------------------- amounts
@@ -683,7 +791,7 @@ fn names() {
     // 7, then 16, then 17; in the tail 16 before 18.
     let flow = with(with(example(), 1, 14, "009900"), 1, 20, "/");
     assert_refused(&flow, 16, 1, 20);
-    assert_refused(&with(flow, 1, 19, " "), 7, 1, 14);
+    assert_refused(&with(flow, 1, 19, " "), 7, 1, 19);
     assert_refused(
         &with(with(example(), 8, 20, "/"), 8, 46, "9999999"),
         16,
@@ -701,6 +809,7 @@ fn dates() {
         assert_refused(&with(example(), 1, 14, date), 17, 1, 14);
     }
     assert_refused(&with(example(), 1, 14, " 10100"), 7, 1, 14);
+    assert_refused(&with(example(), 1, 14, "32 1 0"), 7, 1, 16);
 }
 
 #[test]

@@ -219,6 +219,17 @@ rising-first lo (Fault m q ∷ os) {n} u e =
     let j = only-number (u .2) in
     ((omega arith, least n (u .0) os (u .3) (omega arith)), record { least = omega arith; most = omega arith; not-five = λ k. u .1 .2 (omega arith) })
 
+-- behind the numeric fields only the checks from 8 on are left
+pub rest-number : (name : List ℕ) (st : State) (r : List ℕ) {n p : ℕ} →
+    first (numberFault (st .deleghe) (kindIn r) (valueOf r delegaNumber)) (first (ownFault name st (kindIn r) r) (wrong (storedOf st (kindIn r)) r)) ≡ Fault n p → 8 ≤ n
+rest-number name st r e =
+    let k = kindIn r in
+    let own = ownChecks name st k r in
+    let stored = map (storedCheck r) (storedOf st k) in
+    let number = numberFault (st .deleghe) k (valueOf r delegaNumber) in
+    let f = firstOf-cons number (own ++ stored) ∙ ap (first number) (firstOf-append own stored ∙ ap (first (firstOf own)) (sym (stored-first (storedOf st k) r))) in
+    rising-first 8 (number ∷ (own ++ stored)) (8, omega arith, number-only (st .deleghe) k (valueOf r delegaNumber), rest-rising name st k r) (f ∙ e) .1 .least
+
 module _ (name : List ℕ) (st : State) (r : List ℕ) {n p : ℕ} (e : fault name st r ≡ Fault n p) where
   smallest : AllAtLeast n (checksOf name st r) × Numbered 3 n
   smallest = rising-first 3 (checksOf name st r) (checks-rising name st r) (sym (fault-is-first name st r) ∙ e)

@@ -7,4 +7,5 @@ pub mod Counts
 pub mod PlainSums
 pub mod ChecksInOrder
 pub mod FirstFault
+pub mod VeryCharacter
 pub mod OneAnswer

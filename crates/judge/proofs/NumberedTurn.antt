@@ -36,14 +36,13 @@ or-passes (NonDigit i) f o e = let z : _≡_ {A = ℕ} 0 1 = cc in absurd (omega
 or-passes TooLong f o e = let z : _≡_ {A = ℕ} 0 1 = cc in absurd (omega arith)
 
 -- fifteen characters that say no amount are a field that is no number
-pub amount-none : (fl : List Field) (r : List ℕ) (j : ℕ) → j < length fl → fifteenOf (numberOf (bytesOf r (getD fl j nowhere))) ≡ Said.NonDigit → badFields (drop j fl) r ≡ Fault 7 (getD fl j nowhere .start + 1)
+pub amount-none : (fl : List Field) (r : List ℕ) (j : ℕ) → j < length fl → fifteenOf (numberOf (bytesOf r (getD fl j nowhere))) ≡ Said.NonDigit → badFields (drop j fl) r ≡ Pass → ⊥
 unfolding badFields
-amount-none fl r j h e = rw (drop-cons fl j nowhere h) (go (numberOf (bytesOf r (getD fl j nowhere))) e)
-  where
-    go : (d : Digits) → fifteenOf d ≡ Said.NonDigit → orBad d (getD fl j nowhere) (badFields (drop (suc j) fl) r) ≡ Fault 7 (getD fl j nowhere .start + 1)
-    go (Number v) g = let z : _≡_ {A = ℕ} 0 1 = cc in absurd (omega arith)
-    go (NonDigit i) g = refl
-    go TooLong g = refl
+amount-none fl r j h e p =
+    let v = or-passes (numberOf (bytesOf r (getD fl j nowhere))) (getD fl j nowhere) (badFields (drop (suc j) fl) r) (rw (drop-cons fl j nowhere h) at p) .1 in
+    let n = sym (ap fifteenOf v) ∙ e in
+    let z : _≡_ {A = ℕ} 0 1 = cc in
+    absurd (omega arith)
 
 -- a record without a number opens no delega
 pub unnumbered-next : (d : ℕ) (k : Kind) → numbered k ≡ false → nextDeleghe d k ≡ d
@@ -70,11 +69,8 @@ module _ (r : List ℕ) (n : numbered (kindIn r) ≡ true) where
   values-then = ap (λ (fl : List Field). map (valueOf r) fl ++ replicate (4 - length fl) 0) (number-first (kindIn r) n) ∙ ap (λ (m : ℕ). valueOf r delegaNumber ∷ (map (valueOf r) (behind (kindIn r)) ++ replicate m 0)) (let e : 4 - suc (length (behind (kindIn r))) ≡ 3 - length (behind (kindIn r)) = omega arith in e)
 
   -- an amount that is none: the fields are not all numbers
-  pub amount-bad : {e p : ℕ} → badFields (behind (kindIn r)) r ≡ Fault e p → badFields (fieldsOf (kindIn r)) r ≡ Pass → ⊥
-  amount-bad b g =
-      let o = or-passes (numberOf (bytesOf r delegaNumber)) delegaNumber (badFields (behind (kindIn r)) r) (sym number-then ∙ g) .0 in
-      let z : _≡_ {A = ℕ} 0 1 = cc in
-      absurd (omega arith)
+  pub amount-bad : (badFields (behind (kindIn r)) r ≡ Pass → ⊥) → badFields (fieldsOf (kindIn r)) r ≡ Pass → ⊥
+  amount-bad b g = b (or-passes (numberOf (bytesOf r delegaNumber)) delegaNumber (badFields (behind (kindIn r)) r) (sym number-then ∙ g) .0)
 
   module _ (l : length r ≡ 120) (ok : firstBad r ≡ Allowed) (d : ℕ) (small : d < 1000) where
     -- the number is the one expected

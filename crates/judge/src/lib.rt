@@ -131,8 +131,9 @@ fn misread(rec: &[u8], kind: Kind, k: usize) -> Judgement
     let mut f: usize = 0;
     while f < fields.count {
         let field = list[f];
-        let Digits::Number(_) = records::read_field(rec, field) else {
-            return refused(7, k + 1, field.start + 1);
+        let said = records::read_field(rec, field);
+        let Digits::Number(_) = said else {
+            return refused(7, k + 1, records::non_digit_at(field, said));
         };
         f += 1;
     }

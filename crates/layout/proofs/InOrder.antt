@@ -7,7 +7,6 @@ use mathlib.Core.Logic.{_⊎_, inl, inr, ⊎-elim}
 use native.Mathlib.Omega.{arith}
 use borrow.Author.Tests.{leb-true, ltb-true, le-leb, lt-ltb}
 use lib.Dec.{T, leb, ltb, leb→le}
-use lib.ListN.{getD}
 use Rattle.layout.specs.declared.Field.{Field}
 use Rattle.layout.specs.declared.Section.{Section}
 use Rattle.layout.specs.declared.Kind.{Kind}

@@ -2,3 +2,4 @@ pub mod KeptFields
 pub mod Judging
 pub mod OneAnswer
 pub mod Mends
+pub mod VeryCharacter

@@ -55,8 +55,9 @@ fn digits_fault(rec: &[u8], kind: Kind) -> Outcome
     let mut f: usize = 0;
     while f < count {
         let field = list[f];
-        let Digits::Number(_) = records::read_field(rec, field) else {
-            return Outcome::Fault(7, field.start + 1);
+        let said = records::read_field(rec, field);
+        let Digits::Number(_) = said else {
+            return Outcome::Fault(7, records::non_digit_at(field, said));
         };
         f += 1;
     }

@@ -5,14 +5,16 @@ use mathlib.Core.List.{List, [], _∷_, _++_, map, append-assoc, map-append}
 use mathlib.Core.Logic.{⊎-elim}
 use native.Mathlib.Omega.{arith}
 use native.Mathlib.Numerals.{add-one}
+use native.Mathlib.Nat.{min-le-left}
 use types.Run.{OneOf}
 use denote.Enum.Declared.{tagOf}
-use lib.ListN.{length, take, drop, getD, set, replicate, length-map, drop-of-length-le}
+use lib.ListN.{length, take, drop, getD, set, replicate, length-map, length-take, drop-of-length-le}
 use lib.Seq.{drop-cons, set-at, take-suc, take-all, length-take-le}
 use Rattle.text.specs.declared.Digits.{Digits}
 use Rattle.text.specs.declared.Digits.the-variants.{Number, NonDigit, TooLong}
 use Rattle.text.specs.Numbers.{numberOf}
 use Rattle.text.proofs.Digits.{the-type}
+use Rattle.text.proofs.NonDigits.{Tells, number, non-digit, digits-told}
 use Rattle.layout.specs.declared.Field.{Field}
 use Rattle.layout.specs.declared.Fields.{Fields}
 use Rattle.layout.specs.declared.Kind.{Kind}
@@ -22,6 +24,7 @@ use Rattle.amounts.specs.declared.Outcome.{Outcome}
 use Rattle.amounts.specs.declared.Outcome.the-variants.{Pass, Fault}
 use Rattle.rules.specs.Checks.{orBad, badFields}
 use Rattle.rules.specs.Values.{valuesIn}
+use Rattle.records.specs.Reading.{nonDigitAt}
 
 module _ (k : Kind) (fs : Fields) (e : fs ≡ listed (fieldsOf k)) (f : ℕ) (h : f < fs .count) where
   pub inside : f < length (fieldsOf k)
@@ -36,11 +39,22 @@ module _ (k : Kind) (fs : Fields) (e : fs ≡ listed (fieldsOf k)) (f : ℕ) (h 
   pub field-within : Within (getD (fs .fields) f nowhere)
   field-within = rw field-is (fields-within k f inside)
 
--- an answer that is no number is a fault
-no-number : (d : Digits) → OneOf (1 ∷ 2 ∷ []) (tagOf the-type d) → (f : Field) (o : Outcome) → orBad d f o ≡ Fault 7 (f .start + 1)
+-- an answer that is no number is a fault, at the position of the first non-digit
+no-number : (d : Digits) → OneOf (1 ∷ 2 ∷ []) (tagOf the-type d) → (f : Field) (o : Outcome) → orBad d f o ≡ Fault 7 (nonDigitAt f d)
 no-number (Number v) t f o = absurd (⊎-elim (λ e. omega arith) (λ e. omega arith) t)
 no-number (NonDigit i) t f o = refl
-no-number TooLong t f o = refl
+no-number TooLong t f o = ap (Fault 7) (let e : f .start + 1 ≡ f .start + 0 + 1 = omega arith in e)
+
+-- the position is one of the record
+pub non-digit-near : (f : Field) (r : List ℕ) → Within f → (d : Digits) → d ≡ numberOf (bytesOf r f) → nonDigitAt f d < 1000
+non-digit-near f r w d e = rw e (go (numberOf (bytesOf r f)) (digits-told (bytesOf r f)))
+  where
+    narrow : length (bytesOf r f) ≤ 15
+    narrow = omega (arith, w .narrow, length-take (f .end - f .start) (drop (f .start) r), min-le-left (f .end - f .start) (length (drop (f .start) r)))
+
+    go : (d : Digits) → Tells 0 (bytesOf r f) d → nonDigitAt f d < 1000
+    go (Number v) (number h) = omega (arith, w .forward, w .inside)
+    go (NonDigit k) (non-digit m p h q g) = omega (arith, w .forward, w .inside, narrow)
 
 -- a turn over the fields
 module _ (fl : List Field) (r : List ℕ) (j : ℕ) (h : j < length fl) where
@@ -48,8 +62,8 @@ module _ (fl : List Field) (r : List ℕ) (j : ℕ) (h : j < length fl) where
   unfolding badFields
   bad-on v e = rw (drop-cons fl j nowhere h, e, add-one)
 
-  -- an answer that is no number is the fault 7, at the field's start
-  pub bad-here : (d : Digits) → d ≡ numberOf (bytesOf r (getD fl j nowhere)) → OneOf (1 ∷ 2 ∷ []) (tagOf the-type d) → badFields (drop j fl) r ≡ Fault 7 (getD fl j nowhere .start + 1)
+  -- an answer that is no number is the fault 7, at the position of the first non-digit
+  pub bad-here : (d : Digits) → d ≡ numberOf (bytesOf r (getD fl j nowhere)) → OneOf (1 ∷ 2 ∷ []) (tagOf the-type d) → badFields (drop j fl) r ≡ Fault 7 (nonDigitAt (getD fl j nowhere) d)
   unfolding badFields
   bad-here d e t = rw (drop-cons fl j nowhere h, ← e) (no-number d t (getD fl j nowhere) (badFields (drop (suc j) fl) r))
 

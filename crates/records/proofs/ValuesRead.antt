@@ -1,4 +1,4 @@
--- Laws of the values of a record's fields: none is bad, or the position of the first that is.
+-- Laws of the values of a record's fields: none is bad, or the position of the first non-digit.
 use Prim.Native.Nat.{ℕ, _+_, _<_}
 use mathlib.Core.Path.{_≡_, refl, ap}
 use mathlib.Core.List.{List, [], _∷_}
@@ -22,7 +22,7 @@ bad-seven (f ∷ fl) r {e = e} {p = p} g = go (numberOf (bytesOf r f)) g (λ h. 
   where
     go : (d : Digits) → orBad d f (badFields fl r) ≡ Fault e p → (badFields fl r ≡ Fault e p → (e ≡ 7) × (0 < p)) → (e ≡ 7) × (0 < p)
     go (Number v) h ih = ih h
-    go (NonDigit i) h ih = let x : 7 ≡ e = cc in let y : f .start + 1 ≡ p = cc in (omega arith, omega arith)
+    go (NonDigit i) h ih = let x : 7 ≡ e = cc in let y : f .start + i + 1 ≡ p = cc in (omega arith, omega arith)
     go TooLong h ih = let x : 7 ≡ e = cc in let y : f .start + 1 ≡ p = cc in (omega arith, omega arith)
 
 -- where none is bad, they are the values

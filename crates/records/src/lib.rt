@@ -2,7 +2,7 @@
 mod lines;
 
 ghost use mathlib.Core.Path.{_≡_};
-ghost use Prim.Native.Nat.{_+_, _/_, _≤_};
+ghost use Prim.Native.Nat.{_+_, _/_, _<_, _≤_};
 ghost use lib.Dec.{eqb};
 ghost use lib.ListN.{length, take, drop};
 ghost use Rattle.text.specs.Characters.{firstBad};
@@ -11,7 +11,7 @@ ghost use Rattle.words.specs.Words.{word};
 ghost use Rattle.layout.specs.Kinds.{typeIn, kindIn};
 ghost use Rattle.layout.specs.Fields.{fieldsOf, bytesOf, Within};
 ghost use Rattle.rules.specs.Checks.{charFault};
-ghost use Rattle.records.specs.Reading.{Clean, valuesRead};
+ghost use Rattle.records.specs.Reading.{Clean, offsetOf, nonDigitAt, valuesRead};
 use amounts::Outcome;
 use layout::Field;
 use layout::Flow;
@@ -67,6 +67,25 @@ pub fn read_field(rec: &[u8], field: Field) -> Digits
     text::number(&rec[start..end])
 }
 
+// The offset of the first character of a field that is no digit, by what the field's digits say; 0 where they tell none.
+fn offset_of(said: Digits) -> usize
+    ensures { λ r. ⌜ r ≡ offsetOf said ⌝ }
+{
+    match said {
+        Digits::Number(_) => 0,
+        Digits::NonDigit(i) => i,
+        Digits::TooLong => 0,
+    }
+}
+
+// The position of that character in the record, for a field that says no number.
+pub fn non_digit_at(field: Field, said: Digits) -> usize
+    requires { ⌜ nonDigitAt field said < 1000 ⌝ }
+    ensures { λ r. ⌜ r ≡ nonDigitAt field said ⌝ }
+{
+    field.start + offset_of(said) + 1
+}
+
 // How many records stand before the first, behind those seen, that has a byte outside 32 to 126; all of them where none has. Blocks of records are
 // tried, and a block that has such a byte is tried again by halves.
 pub fn clean_records(flow: &[u8], seen: usize) -> usize
@@ -92,7 +111,7 @@ pub fn clean_records(flow: &[u8], seen: usize) -> usize
     count
 }
 
-// What the numeric fields of a record say, or the position of the first that holds something else than digits; that position is 0 where none does.
+// What the numeric fields of a record say, or the position of the first character in them that is no digit; that position is 0 where all are.
 pub struct Values {
     pub bad: usize,
     pub values: [u64; 4],
@@ -109,9 +128,10 @@ pub fn values_in(rec: &[u8], kind: Kind) -> Values
     let mut f: usize = 0;
     while f < fields.count {
         let field = list[f];
-        let Digits::Number(v) = read_field(rec, field) else {
+        let said = read_field(rec, field);
+        let Digits::Number(v) = said else {
             return Values {
-                bad: field.start + 1,
+                bad: non_digit_at(field, said),
                 values: [0u64; 4],
             };
         };

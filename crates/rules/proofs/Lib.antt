@@ -2,3 +2,4 @@ pub mod Arrays
 pub mod Reading
 pub mod Growth
 pub mod Numbers
+pub mod NonDigits

@@ -30,10 +30,10 @@ abbrev pub charFault : Characters → Outcome
 charFault Allowed = Pass
 charFault (BadAt i) = Fault 3 (i + 1)
 
--- 7, "non-digit in a numeric field", at the "start of the first such field"
+-- 7, "non-digit in a numeric field": of the first such field "the first non-digit's own position", which is i characters behind the field's start
 abbrev pub orBad : Digits → Field → Outcome → Outcome
 orBad (Number n) f o = o
-orBad (NonDigit i) f o = Fault 7 (f .start + 1)
+orBad (NonDigit i) f o = Fault 7 (f .start + i + 1)
 orBad TooLong f o = Fault 7 (f .start + 1)
 
 unfoldable pub badFields : List Field → List ℕ → Outcome

@@ -4,3 +4,4 @@ pub mod Stored
 pub mod Checks
 pub mod Step
 pub mod Values
+pub mod NonDigits

@@ -9,7 +9,7 @@ use lib.Dec.{ltb}
 use lib.ListN.{length, getD, List·getD-append}
 use lib.Seq.{getD-append-seam}
 use Rattle.text.specs.declared.Digits.{Digits}
-use Rattle.text.specs.declared.Digits.the-variants.{Number, NonDigit, TooLong}
+use Rattle.text.specs.declared.Digits.the-variants.{Number, NonDigit}
 use Rattle.text.specs.Numbers.{digit, numberFrom, numberOf, digitsOf}
 use Rattle.text.proofs.Bytes.{within}
 use Rattle.text.proofs.Numerals.{length-digits}

@@ -16,3 +16,4 @@ pub mod AsJudged
 pub mod Settled
 pub mod Leniently
 pub mod Told
+pub mod VeryCharacter

@@ -71,15 +71,19 @@ name-apart k name r n l = go (isTail k)
 
 -- A name of 20 characters.
 module _ (name : List ℕ) (n : length name ≡ 20) where
-  -- Every record of a delega has the number that is filled, where this has at most seven digits.
-  pub number-filled : (e : Entry) → Entered e → numbered (e .slot) ≡ true → e .delega < 10000000 → valueOf (filled name e) delegaNumber ≡ e .delega
+  -- Every record of a delega has the digits of the number that is filled.
+  pub number-digits-filled : (e : Entry) → Entered e → numbered (e .slot) ≡ true → bytesOf (filled name e) delegaNumber ≡ digitsOf 7 (e .delega)
   unfolding filled
-  number-filled e a h l =
+  number-digits-filled e a h =
       let xs = storedOf startState (e .slot) in
       let q = withNumber (e .slot) (e .delega) (e .bytes) in
       let p = length-number (e .slot) (e .bytes) (a .sized) (e .delega) in
       let c = putAll-clear xs (withName (e .slot) name q) (slot-laid startState (a .in-slot)) (length-name (e .slot) q p name n) 3 7 (columns (slot-storing startState (a .in-slot)) .delega-number) in
-      ap (λ (b : List ℕ). amountOf (numberOf b)) (c ∙ (name-apart (e .slot) name q n p ∙ number-put (e .slot) (e .delega) (e .bytes) (a .sized) h)) ∙ ap amountOf (number-digits 7 (e .delega) l)
+      c ∙ (name-apart (e .slot) name q n p ∙ number-put (e .slot) (e .delega) (e .bytes) (a .sized) h)
+
+  -- It has the number, where this has at most seven digits.
+  number-filled : (e : Entry) → Entered e → numbered (e .slot) ≡ true → e .delega < 10000000 → valueOf (filled name e) delegaNumber ≡ e .delega
+  number-filled e a h l = ap (λ (b : List ℕ). amountOf (numberOf b)) (number-digits-filled e a h) ∙ ap amountOf (number-digits 7 (e .delega) l)
 
   -- EF has the name that is filled.
   pub name-in-tail : (d : ℕ) (r : List ℕ) → length r ≡ 120 → bytesOf (filled name (entry Tail d r)) supportName ≡ name

@@ -498,7 +498,7 @@ returns-3 c =
     let i = a .before in
     let l = i .before in
     let n = is-number (next-of l) in
-    c .misread .ensures ∙ misread-out (num-of (next-of l)) (λ p. absurd (amount-bad (rl l) n (l .loop .inv .1 ∙ amount-none _ _ _ (ahead i) (sym (said a) ∙ c .before .enum-told2 .given .1)) p))
+    c .misread .ensures ∙ misread-out (num-of (next-of l)) (λ p. absurd (amount-bad (rl l) n (λ q. amount-none _ _ _ (ahead i) (sym (said a) ∙ c .before .enum-told2 .given .1) (sym (l .loop .inv .1) ∙ q)) p))
 
 returns-4 : tie.Need-returns-4 Inv-loop μ-loop Inv-records μ-records
 returns-4 c =

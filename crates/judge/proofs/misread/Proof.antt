@@ -3,7 +3,8 @@ use Prim.Native.Nat.{ℕ, _+_, _-_, _≤_}
 use native.Mathlib.Omega.{arith}
 use mathlib.Core.List.{List}
 use lib.ListN.{length, drop, getD}
-use Rattle.records.proofs.FieldByField.{inside, in-four, field-is, field-within, bad-on, bad-here, bad-end}
+use Rattle.records.specs.Reading.{nonDigitAt}
+use Rattle.records.proofs.FieldByField.{inside, in-four, field-is, field-within, non-digit-near, bad-on, bad-here, bad-end}
 use Rattle.judge.specs.Flow.{refusedWith}
 use Rattle.rules.specs.Checks.{badFields}
 use Rattle.layout.specs.declared.Field.{Field}
@@ -84,8 +85,11 @@ enum-told c = search needs
 add-refused : tie.Need-add-refused Inv-loop μ-loop
 add-refused c = omega (arith, c .before .before .before .before .before .before .before .before .before .pre .1)
 
-add-refused-2 : tie.Need-add-refused-2 Inv-loop μ-loop
-add-refused-2 c = let q = c .before .before .before .before in let w = field-within (kind (loop-of q)) (fs (loop-of q)) (listed-are (loop-of q)) (f-of q) (q .if1 .taken) in omega arith
+non-digit-at-requires : tie.Need-non-digit-at-requires Inv-loop μ-loop
+non-digit-at-requires c κs =
+    let p = c .before .before .before in
+    let l = loop-of p in
+    non-digit-near _ (rec l) (field-within (kind l) (fs l) (listed-are l) (f-of p) (p .if1 .taken)) _ (c .before .read-field .ensures)
 
 refused-requires : tie.Need-refused-requires Inv-loop μ-loop
 refused-requires c κs = search needs
@@ -98,7 +102,7 @@ returns c =
     let h = inside (kind l) (fs l) (listed-are l) (f-of p) (p .if1 .taken) in
     let k = l .before .before .before .before .args .k in
     c .refused .ensures
-    ∙ rw (held l .1 ∙ bad-here _ _ _ h _ (read r (kind l) (listed-are l)) (c .before .before .match .keys2)) (ap (λ (x : Field). refusedWith 7 (k + 1) (x .start + 1)) (field-is (kind l) (fs l) (listed-are l) (f-of p) (p .if1 .taken)))
+    ∙ rw (held l .1 ∙ bad-here _ _ _ h _ (read r (kind l) (listed-are l)) (c .before .before .match .keys2)) (ap (refusedWith 7 (k + 1)) (c .before .non-digit-at .ensures ∙ ap (λ (x : Field). nonDigitAt x (r .read-field .result)) (field-is (kind l) (fs l) (listed-are l) (f-of p) (p .if1 .taken))))
 
 add-f : tie.Need-add-f Inv-loop μ-loop
 add-f c = let q = c .before .before .before .before in omega (arith, in-four (kind (loop-of q)) (fs (loop-of q)) (listed-are (loop-of q)) (f-of q) (q .if1 .taken))
@@ -114,8 +118,8 @@ loop-again c = λ q e.
     let i = loop-of p .loop .inv q e in
     (omega (arith, h), i .1 ∙ bad-on _ _ _ h _ (sym (read r q e) ∙ c .enum-told .given .1))
 
-add-refused-3 : tie.Need-add-refused-3 Inv-loop μ-loop
-add-refused-3 c = omega (arith, c .before .before .before .before .before .before .pre .1)
+add-refused-2 : tie.Need-add-refused-2 Inv-loop μ-loop
+add-refused-2 c = omega (arith, c .before .before .before .before .before .before .pre .1)
 
 refused-requires-2 : tie.Need-refused-requires-2 Inv-loop μ-loop
 refused-requires-2 c κs = search needs
@@ -139,12 +143,12 @@ misread-spec =
     read-field-requires
     enum-told
     add-refused
-    add-refused-2
+    non-digit-at-requires
     refused-requires
     returns
     add-f
     loop-less
     loop-again
-    add-refused-3
+    add-refused-2
     refused-requires-2
     returns-2)

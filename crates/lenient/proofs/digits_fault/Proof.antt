@@ -1,5 +1,5 @@
 -- `lenient::digits_fault` meets its contract. The loop's invariant: the fields that are left say what all do. The measure is the number of fields left.
-use Prim.Native.Nat.{ℕ, _+_, _-_, _<_}
+use Prim.Native.Nat.{ℕ, _-_, _<_}
 use mathlib.Core.Path.{_≡_, refl, sym, ap, _∙_}
 use mathlib.Core.List.{List}
 use native.Mathlib.Omega.{arith}
@@ -13,7 +13,8 @@ use Rattle.layout.specs.declared.Kind.{Kind}
 use Rattle.layout.specs.Fields.{Within, nowhere, bytesOf}
 use Rattle.amounts.specs.declared.Outcome.the-variants.{Fault}
 use Rattle.rules.specs.Checks.{badFields}
-use Rattle.records.proofs.FieldByField.{bad-on, bad-here, bad-end}
+use Rattle.records.specs.Reading.{nonDigitAt}
+use Rattle.records.proofs.FieldByField.{non-digit-near, bad-on, bad-here, bad-end}
 use Rattle.rebalance.specs.Rebalance.{keptFields}
 use Rattle.lenient.proofs.KeptFields.{kept-four, kept-listed, kept-within}
 use Rattle.lenient.proofs.digits_fault.Statement.{statement}
@@ -100,14 +101,14 @@ read-field-requires c κs = (c .before .before .before .before .before .before .
 enum-told : tie.Need-enum-told Inv-loop μ-loop
 enum-told c = search needs
 
-add-t14 : tie.Need-add-t14 Inv-loop μ-loop
-add-t14 c = let w = field-within (c .before .before .before .before) in omega arith
+non-digit-at-requires : tie.Need-non-digit-at-requires Inv-loop μ-loop
+non-digit-at-requires c κs = let p = c .before .before .before in non-digit-near _ (rec (p .before)) (field-within p) _ (c .before .read-field .ensures)
 
 returns : tie.Need-returns Inv-loop μ-loop
 returns c =
     let r = c .before .before in
     let p = r .before .before in
-    ap (λ (x : Field). Fault 7 (x .start + 1)) (field-is p) ∙ sym (held (p .before) ∙ bad-here _ _ _ (inside p) _ (read r) (c .before .match .keys2))
+    ap (Fault 7) (c .non-digit-at .ensures ∙ ap (λ (x : Field). nonDigitAt x (r .read-field .result)) (field-is p)) ∙ sym (held (p .before) ∙ bad-here _ _ _ (inside p) _ (read r) (c .before .match .keys2))
 
 add-f : tie.Need-add-f Inv-loop μ-loop
 add-f c = omega (arith, in-four (c .before .before .before .before))
@@ -142,7 +143,7 @@ digits-fault-spec =
     array-copy-out-field
     read-field-requires
     enum-told
-    add-t14
+    non-digit-at-requires
     returns
     add-f
     loop-less

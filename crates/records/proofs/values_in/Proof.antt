@@ -3,14 +3,14 @@ use Prim.Native.Nat.{ℕ, _+_, _-_, _≤_}
 use native.Mathlib.Omega.{arith}
 use mathlib.Core.List.{List, _++_, map}
 use lib.ListN.{length, take, drop, getD, replicate}
-use Rattle.records.proofs.FieldByField.{inside, in-four, field-is, field-within, bad-on, bad-here, bad-end, read-on, read-end}
+use Rattle.records.proofs.FieldByField.{inside, in-four, field-is, field-within, non-digit-near, bad-on, bad-here, bad-end, read-on, read-end}
 use Rattle.rules.specs.Checks.{badFields}
 use Rattle.layout.specs.declared.Field.{Field}
 use Rattle.layout.specs.declared.Fields.{Fields}
 use Rattle.layout.specs.declared.Kind.{Kind}
 use Rattle.layout.specs.Fields.{nowhere, listed, fieldsOf, bytesOf, valueOf}
 use Rattle.text.specs.Numbers.{numberOf, amountOf}
-use Rattle.records.specs.Reading.{valuesRead}
+use Rattle.records.specs.Reading.{nonDigitAt, valuesRead}
 use borrow.Author.Needs.{needs}
 use Rattle.records.proofs.values_in.Statement.{statement}
 use Rattle.records.proofs.values_in.Tie as tie
@@ -78,11 +78,14 @@ array-copy-out-field c = in-four (kind (loop-of c)) (fs (loop-of c)) (listed-are
 read-field-requires : tie.Need-read-field-requires Inv-loop μ-loop
 read-field-requires c κs = (c .before .before .before .before .before .before .before .pre, field-within (kind (loop-of (c .before))) (fs (loop-of (c .before))) (listed-are (loop-of (c .before))) (f-of (c .before)) ((c .before) .if1 .taken))
 
-enum-known-v : tie.Need-enum-known-v Inv-loop μ-loop
-enum-known-v c = search needs
+enum-known-said : tie.Need-enum-known-said Inv-loop μ-loop
+enum-known-said c = search needs
 
-add-t15 : tie.Need-add-t15 Inv-loop μ-loop
-add-t15 c = let q = c .before .before .before .before in let w = field-within (kind (loop-of q)) (fs (loop-of q)) (listed-are (loop-of q)) (f-of q) (q .if1 .taken) in omega arith
+non-digit-at-requires : tie.Need-non-digit-at-requires Inv-loop μ-loop
+non-digit-at-requires c κs =
+    let p = c .before .before .before in
+    let l = loop-of p in
+    non-digit-near _ (rec l) (field-within (kind l) (fs l) (listed-are l) (f-of p) (p .if1 .taken)) _ (c .before .read-field .ensures)
 
 returns : tie.Need-returns Inv-loop μ-loop
 unfolding valuesRead
@@ -91,7 +94,7 @@ returns c =
     let p = r .before .before in
     let l = loop-of p in
     let h = inside (kind l) (fs l) (listed-are l) (f-of p) (p .if1 .taken) in
-    rw (held l .1 ∙ bad-here _ _ _ h _ (read r (kind l) (listed-are l)) (c .before .match .keys2)) (ap (λ (x : Field). record { bad = x .start + 1; values = replicate 4 0 }) (field-is (kind l) (fs l) (listed-are l) (f-of p) (p .if1 .taken)))
+    rw (held l .1 ∙ bad-here _ _ _ h _ (read r (kind l) (listed-are l)) (c .before .match .keys2)) (ap (λ (n : ℕ). record { bad = n; values = replicate 4 0 }) (c .non-digit-at .ensures ∙ ap (λ (x : Field). nonDigitAt x (r .read-field .result)) (field-is (kind l) (fs l) (listed-are l) (f-of p) (p .if1 .taken))))
 
 mul-values : tie.Need-mul-values Inv-loop μ-loop
 mul-values c = let q = c .before .before .before .before .before in omega (arith, in-four (kind (loop-of q)) (fs (loop-of q)) (listed-are (loop-of q)) (f-of q) (q .if1 .taken))
@@ -111,7 +114,7 @@ loop-again c = λ q e.
     let p = r .before .before in
     let h = inside q (fs (loop-of p)) e (f-of p) (p .if1 .taken) in
     let i = loop-of p .loop .inv q e in
-    let v = sym (read r q e) ∙ c .before .v .given .1 in
+    let v = sym (read r q e) ∙ c .before .said .given .1 in
     (omega (arith, h), i .1 ∙ bad-on _ _ _ h _ v, rw (i .2, ← (ap amountOf v)) (read-on _ _ _ h 4 (in-four q (fs (loop-of p)) e (f-of p) (p .if1 .taken))))
 
 returns-2 : tie.Need-returns-2 Inv-loop μ-loop
@@ -132,8 +135,8 @@ values-in-spec =
     mul-field
     array-copy-out-field
     read-field-requires
-    enum-known-v
-    add-t15
+    enum-known-said
+    non-digit-at-requires
     returns
     mul-values
     array-write-values
