@@ -57,8 +57,9 @@ case("blank-credit-ident", no(7, 4, 56), flow(delega(ident=[(5, 0)])).put(4, 56,
 case("signed-balance", no(7, 8, 46), flow(delega(erario=[(7500, 0)], regioni=[(2500, 0), (0, 10000)])).put(8, 46, "-00000000007500"),
      "01, Errors that would look right: storing the signed difference")
 case("number-blank-10", no(7, 2, 4), plain().put(2, 4, "      1"), "01: leading zeros, digits only")
-case("number-blank-50-02", no(7, 13, 4), full().put(13, 4, " " * 7), "Decision: 7 at 4 also in 50-02")
-case("number-blank-50-03", no(7, 14, 4), full().put(14, 4, " " * 7), "Decision: 7 at 4 also in 50-03")
+case("number-wrong-before-the-letter", no(7, 4, 10), plain().put(4, 4, "000099x"), "01: 7 before 8; " + OWN)
+case("number-blank-50-02", no(7, 13, 4), full().put(13, 4, " " * 7), "Decision: 7 within 4-10 also in 50-02")
+case("number-blank-50-03", no(7, 14, 4), full().put(14, 4, " " * 7), "Decision: 7 within 4-10 also in 50-03")
 case("date-blank", no(7, 1, 14), plain(date="      "), "01: the creation date is a numeric field")
 case("date-iso", no(7, 1, 16), plain(date="25-6-1"), "01: the creation date is a numeric field; " + OWN)
 

@@ -24,7 +24,8 @@ use Rattle.rules.specs.Step.{nextDeleghe, nextOf, next}
 use Rattle.rebalance.specs.Rebalance.{fitsAll, allFit, keptFault, Mendable}
 use Rattle.rebalance.proofs.Written.{both-true, digits-pass}
 use Rattle.layout.proofs.InTable.{line-within}
-use Rattle.rebalance.proofs.Emit.{kept-each, kept-all, allowed-of}
+use Rattle.judge.proofs.ChecksInOrder.{allowed-of}
+use Rattle.rebalance.proofs.Emit.{kept-each, kept-all}
 use Rattle.rebalance.proofs.Weighed.{neither}
 use Rattle.rebalance.specs.Weigh.{negativeAt, anyNegative}
 use Rattle.correct.proofs.Amended.{amended, length-amended, amended-part, type-amended, kind-amended, allowed-amended, debit-amended, credit-amended, line-amended}

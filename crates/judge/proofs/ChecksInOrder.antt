@@ -74,7 +74,7 @@ fault-is-first name st r =
     simp (standing-first, first-assoc, fields-first, stored-first) (sym (firstOf-append (charFault (firstBad r) ∷ orderCheck (st .stage) (typeIn r) k ∷ mostCheck (st .stage) k ∷ []) (fields ++ (number ∷ (own ++ stored))) ∙ simp (first-assoc, e)))
 
 -- a check whose only fault has number n
-data Only (n : ℕ) : Outcome → Type 0 where
+pub data Only (n : ℕ) : Outcome → Type 0 where
   passed : Only n Pass
   failed : {p : ℕ} → Only n (Fault n p)
 
@@ -87,9 +87,14 @@ abbrev Rising : ℕ → List Outcome → Type 0
 Rising lo [] = Unit {0}
 Rising lo (o ∷ os) = (n : ℕ) × ((lo ≤ n) × (n ≤ 20) × (n ≡ 5 → ⊥)) × Only n o × Rising n os
 
-char-only : (c : Characters) → Only 3 (charFault c)
+pub char-only : (c : Characters) → Only 3 (charFault c)
 char-only Allowed = passed
 char-only (BadAt i) = failed
+
+-- a record that has no character fault is made of characters
+pub allowed-of : (c : Characters) → charFault c ≡ Pass → c ≡ Allowed
+allowed-of Allowed e = refl
+allowed-of (BadAt i) e = cc
 
 field-only : (d : Digits) (f : Field) → Only 7 (orBad d f Pass)
 field-only (Number n) f = passed
@@ -194,7 +199,7 @@ at-least : {m n : ℕ} {o : Outcome} → m ≤ n → Only n o → AtLeast m o
 at-least h passed = tt
 at-least h failed = h
 
-only-number : {m n p : ℕ} → Only n (Fault m p) → m ≡ n
+pub only-number : {m n p : ℕ} → Only n (Fault m p) → m ≡ n
 only-number failed = refl
 
 least : (m lo : ℕ) (os : List Outcome) → Rising lo os → m ≤ lo → AllAtLeast m os

@@ -8,7 +8,7 @@ use native.Mathlib.Omega.{arith}
 use lib.ListN.{length, getD, length-append}
 use lib.Seq.{getD-append-seam}
 use Rattle.text.specs.declared.Characters.{Characters}
-use Rattle.text.specs.declared.Characters.the-variants.{Allowed, BadAt}
+use Rattle.text.specs.declared.Characters.the-variants.{Allowed}
 use Rattle.text.specs.Characters.{firstBad}
 use Rattle.layout.specs.declared.Field.{Field}
 use Rattle.layout.specs.declared.RecordType.{RecordType}
@@ -31,7 +31,7 @@ use Rattle.judge.specs.Flow.{recordsOf, headNameOf, judged}
 use Rattle.judge.specs.Part.{recordAt}
 use Rattle.judge.specs.Plain.{FirstFault, RefusedFor, LongFlow, NoBytes, RaggedFlow, FaultAt, NoTail}
 use Rattle.judge.proofs.Records.{length-chunks, record-whole, record-number}
-use Rattle.judge.proofs.ChecksInOrder.{rest-number}
+use Rattle.judge.proofs.ChecksInOrder.{char-only, allowed-of, only-number, rest-number}
 use Rattle.judge.proofs.FirstFault.{refused-exactly}
 
 -- an outcome that is no 7
@@ -43,14 +43,13 @@ pub other-seven : (o : Outcome) {x : Outcome} {q : ℕ} → NoSeven o → first 
 other-seven Pass n e = (refl, e)
 other-seven (Fault m u) {q = q} n e = absurd (n q e)
 
-pub this-seven : (o : Outcome) {x : Outcome} {q : ℕ} → NoSeven x → first o x ≡ Fault 7 q → o ≡ Fault 7 q
+this-seven : (o : Outcome) {x : Outcome} {q : ℕ} → NoSeven x → first o x ≡ Fault 7 q → o ≡ Fault 7 q
 this-seven Pass {q = q} n e = absurd (n q e)
 this-seven (Fault m u) n e = e
 
 -- the characters have 3, the order has 4 and 6
 pub no-seven-characters : (c : Characters) → NoSeven (charFault c)
-no-seven-characters Allowed q e = let z : _≡_ {A = ℕ} 0 1 = cc in omega arith
-no-seven-characters (BadAt i) q e = let z : _≡_ {A = ℕ} 3 7 = cc in omega arith
+no-seven-characters c q e = let h = only-number (rw e at (char-only c)) in omega arith
 
 no-seven-order : (p : Stage) (t : RecordType) (k : Kind) → NoSeven (standing p t k)
 unfolding standing
@@ -67,18 +66,11 @@ module _ (p : Stage) (r : List ℕ) (l : length r ≡ 120) (fl : List Field) (o 
   abbrev checked : Outcome
   checked = first (charFault (firstBad r)) (first (standing p (typeIn r) (kindIn r)) (first (badFields fl r) x))
 
-  allowed : charFault (firstBad r) ≡ Pass → firstBad r ≡ Allowed
-  allowed e = go (firstBad r) refl e
-    where
-      go : (c : Characters) → firstBad r ≡ c → charFault c ≡ Pass → firstBad r ≡ Allowed
-      go Allowed f e = f
-      go (BadAt i) f e = let z : _≡_ {A = ℕ} 0 1 = cc in absurd (omega arith)
-
   of-fields : {q : ℕ} → checked ≡ Fault 7 q → (firstBad r ≡ Allowed) × (standing p (typeIn r) (kindIn r) ≡ Pass) × (badFields fl r ≡ Fault 7 q)
   of-fields e =
       let a = other-seven (charFault (firstBad r)) (no-seven-characters (firstBad r)) e in
       let b = other-seven (standing p (typeIn r) (kindIn r)) (no-seven-order p (typeIn r) (kindIn r)) (a .1) in
-      (allowed (a .0), b .0, this-seven (badFields fl r) n (b .1))
+      (allowed-of (firstBad r) (a .0), b .0, this-seven (badFields fl r) n (b .1))
 
   -- their 7 is behind the index of the first non-digit of these fields
   pub seven-index : {q : ℕ} → checked ≡ Fault 7 q → (i : ℕ) × (q ≡ i + 1) × FirstNonDigit fl r i

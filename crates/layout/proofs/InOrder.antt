@@ -1,60 +1,53 @@
 -- The numeric fields of a record stand one behind the other, within the record; and what it means for an index to lie in one of them.
-use Prim.Native.Nat.{ℕ, _≤_, _<_}
+use Prim.Native.Nat.{ℕ, zero, suc, _≤_, _<_}
 use mathlib.Core.Path.{_≡_, refl}
 use mathlib.Core.Bool.{Bool, true, false, cond, false≢true}
 use mathlib.Core.List.{List, [], _∷_}
 use mathlib.Core.Logic.{_⊎_, inl, inr, ⊎-elim}
 use native.Mathlib.Omega.{arith}
 use borrow.Author.Tests.{leb-true, ltb-true, le-leb, lt-ltb}
-use lib.Dec.{T, leb, ltb, leb→le}
+use lib.Dec.{leb, ltb}
+use lib.ListN.{take}
 use Rattle.layout.specs.declared.Field.{Field}
-use Rattle.layout.specs.declared.Section.{Section}
 use Rattle.layout.specs.declared.Kind.{Kind}
 use Rattle.layout.specs.declared.Kind.the-variants.{Head, Taxpayer, Domicile, Line, Balance, Payment, Receipt, Addressee, Tail, Unknown}
-use Rattle.layout.specs.Sections.{sections, noSection, sectionAt}
+use Rattle.layout.specs.Sections.{sectionAt}
 use Rattle.layout.specs.Kinds.{kindIn}
 use Rattle.layout.specs.Fields.{fieldsOf, amountAt, delegaNumber, inColumns}
 use Rattle.layout.proofs.InTable.{sectionOf, section-within}
-use Rattle.layout.proofs.Table.{both, both-left, both-right, at-each}
+use Rattle.layout.proofs.Table.{row-rule}
 
 -- fields one behind the other, from an index on, up to the end of a record
 abbrev pub InOrder : ℕ → List Field → Type 0
 InOrder n [] = Unit {0}
 InOrder n (f ∷ fl) = (n ≤ f .start) × (f .start ≤ f .end) × (f .end ≤ 120) × InOrder (f .end) fl
 
-abbrev inOrder : ℕ → List Field → Bool
-inOrder n [] = true
-inOrder n (f ∷ fl) = both (leb n (f .start)) (both (leb (f .start) (f .end)) (both (leb (f .end) 120) (inOrder (f .end) fl)))
+-- so stand the first m of such fields
+pub order-front : (m n : ℕ) (fl : List Field) → InOrder n fl → InOrder n (take m fl)
+order-front zero n fl o = tt
+order-front (suc m) n [] o = tt
+order-front (suc m) n (f ∷ fl) o = (o .0, o .1, o .2, order-front m (f .end) fl (o .3))
 
-tested : (n : ℕ) (fl : List Field) → T (inOrder n fl) → InOrder n fl
-tested n [] t = tt
-tested n (f ∷ fl) t =
-    let a = leb n (f .start) in
-    let b = leb (f .start) (f .end) in
-    let c = leb (f .end) 120 in
-    let rest = inOrder (f .end) fl in
-    let u = both-right a (both b (both c rest)) t in
-    let v = both-right b (both c rest) u in
-    (leb→le _ _ (both-left a (both b (both c rest)) t), leb→le _ _ (both-left b (both c rest) u), leb→le _ _ (both-left c rest v), tested (f .end) fl (both-right c rest v))
-
--- so stand the numeric fields of a kind, by a test of the table
-kind-in-order : (k : Kind) → sectionOf k < 5 → T (inOrder 0 (fieldsOf k))
-unfolding sectionAt
-kind-in-order Head w = tt
-kind-in-order Taxpayer w = tt
-kind-in-order Domicile w = tt
-kind-in-order (Line s) w = at-each (λ (x : Section). inOrder 0 (delegaNumber ∷ amountAt (x .debit) ∷ amountAt (x .credit) ∷ [])) noSection sections tt s w
-kind-in-order (Balance s) w =
-    at-each (λ (x : Section). inOrder 0 (delegaNumber ∷ cond (x .totals) (amountAt (x .«total_debit») ∷ amountAt (x .«total_credit») ∷ amountAt (x .balance) ∷ []) (amountAt (x .balance) ∷ []))) noSection sections tt s w
-kind-in-order Payment w = tt
-kind-in-order Receipt w = tt
-kind-in-order Addressee w = tt
-kind-in-order Tail w = tt
+-- so stand the numeric fields of a kind: those of a section by the rule of the table
+kind-in-order : (k : Kind) → sectionOf k < 5 → InOrder 0 (fieldsOf k)
+kind-in-order Head w = omega arith
+kind-in-order Taxpayer w = omega arith
+kind-in-order Domicile w = omega arith
+kind-in-order (Line s) w = omega (arith, row-rule s w)
+kind-in-order (Balance s) w = go (sectionAt s .totals) refl
+  where
+    go : (t : Bool) → sectionAt s .totals ≡ t → InOrder 0 (delegaNumber ∷ cond t (amountAt (sectionAt s .«total_debit») ∷ amountAt (sectionAt s .«total_credit») ∷ amountAt (sectionAt s .balance) ∷ []) (amountAt (sectionAt s .balance) ∷ []))
+    go true e = omega (arith, rw e at (row-rule s w))
+    go false e = omega (arith, row-rule s w)
+kind-in-order Payment w = omega arith
+kind-in-order Receipt w = omega arith
+kind-in-order Addressee w = omega arith
+kind-in-order Tail w = omega arith
 kind-in-order Unknown w = tt
 
 -- and those of a record
 pub fields-in-order : (r : List ℕ) → InOrder 0 (fieldsOf (kindIn r))
-fields-in-order r = tested 0 (fieldsOf (kindIn r)) (kind-in-order (kindIn r) (section-within r))
+fields-in-order r = kind-in-order (kindIn r) (section-within r)
 
 module _ (i : ℕ) (f : Field) (fl : List Field) where
   -- an index in fields lies in the first, or in one of the others

@@ -9,9 +9,10 @@ use lib.Seq.{take-append-le, getD-take}
 use Rattle.layout.specs.declared.Field.{Field}
 use Rattle.layout.specs.declared.Kind.{Kind}
 use Rattle.layout.specs.declared.Kind.the-variants.{Head, Taxpayer, Domicile, Line, Balance, Payment, Receipt, Addressee, Tail, Unknown}
+use Rattle.layout.specs.Kinds.{kindIn}
 use Rattle.layout.specs.Fields.{Within, nowhere, listed, delegaNumber, fieldsOf, valueOf}
 use Rattle.layout.proofs.Within.{fields-within}
-use Rattle.layout.proofs.InOrder.{InOrder}
+use Rattle.layout.proofs.InOrder.{InOrder, order-front, fields-in-order}
 use Rattle.rules.specs.Checks.{numberFault}
 use Rattle.rebalance.specs.Rebalance.{keptFields}
 
@@ -58,18 +59,9 @@ kept-front Unknown = refl
 pub kept-listed : (k : Kind) → take (length (keptFields k)) (listed (fieldsOf k) .fields) ≡ keptFields k
 kept-listed k = take-append-le (length (keptFields k)) (fieldsOf k) _ (kept-short k) ∙ kept-front k
 
--- They stand in order, as the numeric fields do.
-pub kept-in-order : (k : Kind) → InOrder 0 (fieldsOf k) → InOrder 0 (keptFields k)
-kept-in-order Head o = o
-kept-in-order Taxpayer o = o
-kept-in-order Domicile o = o
-kept-in-order (Line s) o = o
-kept-in-order (Balance s) o = (o .0, o .1, o .2, tt)
-kept-in-order Payment o = (o .0, o .1, o .2, tt)
-kept-in-order Receipt o = o
-kept-in-order Addressee o = o
-kept-in-order Tail o = tt
-kept-in-order Unknown o = tt
+-- They stand in order, as the numeric fields of a record do.
+pub kept-in-order : (r : List ℕ) → InOrder 0 (keptFields (kindIn r))
+kept-in-order r = let k = kindIn r in rw (← (kept-front k)) (order-front (length (keptFields k)) 0 (fieldsOf k) (fields-in-order r))
 
 -- Each lies within the record.
 pub kept-within : (k : Kind) (j : ℕ) → j < length (keptFields k) → Within (getD (keptFields k) j nowhere)

@@ -4,8 +4,7 @@ use mathlib.Core.Path.{_≡_, refl, sym, ap, ap₂, _∙_}
 use mathlib.Core.Bool.{Bool, true, false, cond}
 use mathlib.Core.List.{List, []}
 use lib.ListN.{length, take, drop, getD}
-use Rattle.text.specs.declared.Characters.{Characters}
-use Rattle.text.specs.declared.Characters.the-variants.{Allowed, BadAt}
+use Rattle.text.specs.declared.Characters.the-variants.{Allowed}
 use Rattle.text.specs.Characters.{firstBad}
 use Rattle.text.specs.Numbers.{numberOf, amountOf}
 use Rattle.layout.specs.declared.Kind.{Kind}
@@ -18,6 +17,7 @@ use Rattle.order.specs.Order.{stands, full, typeStands, standing}
 use Rattle.rules.specs.Stored.{Stored, storedOf, wrong}
 use Rattle.rules.specs.Checks.{charFault, orBad, badFields, numberFault, tailName, ownFault, fault}
 use Rattle.rules.specs.Step.{lineSums, next}
+use Rattle.judge.proofs.ChecksInOrder.{allowed-of}
 use Rattle.amounts.proofs.Outcomes.{first-pass, five-pass}
 use Rattle.rebalance.specs.Rebalance.{putAll, emit, fitsAll, clear, keptFields, keptFault}
 use Rattle.rebalance.proofs.Written.{byte-of, laid, length-putAll, putAll-clear, Holds, putAll-holds, holds-same, putAll-allowed, valueFields, holds-numbers, holds-pass, pass-fits, pass-holds}
@@ -40,11 +40,6 @@ kept (plain e f) c name st r part = rw e (record { fields = refl; own = refl; su
 kept (balance x h) c name st r part = record { fields = ap numberDigits (part 3 7 (c .delega-number)); own = refl; sums = refl }
 kept payment c name st r part = record { fields = ap numberDigits (part 3 7 (c .delega-number)); own = refl; sums = refl }
 kept tail c name st r part = record { fields = refl; own = ap (tailName name) (part 19 20 refl); sums = refl }
-
--- A record that has no character fault is made of characters.
-pub allowed-of : (c : Characters) → charFault c ≡ Pass → c ≡ Allowed
-allowed-of Allowed e = refl
-allowed-of (BadAt i) e = cc
 
 -- The checks that rebalancing leaves alone, one by one.
 pub record KeptEach (name : List ℕ) (st : State) (r : List ℕ) : Type 0 where

@@ -45,7 +45,7 @@ no-number (Number v) t f o = absurd (⊎-elim (λ e. omega arith) (λ e. omega a
 no-number (NonDigit i) t f o = refl
 no-number TooLong t f o = ap (Fault 7) (let e : f .start + 1 ≡ f .start + 0 + 1 = omega arith in e)
 
--- the position is one of the record
+-- the position told is small
 pub non-digit-near : (f : Field) (r : List ℕ) → Within f → (d : Digits) → d ≡ numberOf (bytesOf r f) → nonDigitAt f d < 1000
 non-digit-near f r w d e = rw e (go (numberOf (bytesOf r f)) (digits-told (bytesOf r f)))
   where

@@ -1,6 +1,6 @@
 -- Believed. The checks 3 to 20 of one record, in the order of their numbers.
 use Prim.Native.Nat.{ℕ, _+_}
-use mathlib.Core.Bool.{Bool, true, false, cond}
+use mathlib.Core.Bool.{cond}
 use mathlib.Core.List.{List, [], _∷_}
 use lib.Dec.{eqb, ltb}
 use Rattle.text.specs.declared.Characters.{Characters}
@@ -30,7 +30,7 @@ abbrev pub charFault : Characters → Outcome
 charFault Allowed = Pass
 charFault (BadAt i) = Fault 3 (i + 1)
 
--- 7, "non-digit in a numeric field": of the first such field "the first non-digit's own position", which is i characters behind the field's start
+-- 7, "non-digit in a numeric field": of the first such field "the first non-digit's own position", which is i characters behind the field's start (`numberOf` tells no TooLong)
 abbrev pub orBad : Digits → Field → Outcome → Outcome
 orBad (Number n) f o = o
 orBad (NonDigit i) f o = Fault 7 (f .start + i + 1)

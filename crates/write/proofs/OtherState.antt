@@ -15,7 +15,8 @@ use Rattle.rules.specs.Step.{next}
 use Rattle.rebalance.specs.Rebalance.{emit, keptFault}
 use Rattle.rebalance.proofs.Written.{putAll-allowed}
 use Rattle.rebalance.proofs.Columns.{storing, columns, printable-stored}
-use Rattle.rebalance.proofs.Emit.{Kept, kept, allowed-of, kept-each, kept-all, emit-part, emit-type, emit-kind, emit-number}
+use Rattle.judge.proofs.ChecksInOrder.{allowed-of}
+use Rattle.rebalance.proofs.Emit.{Kept, kept, kept-each, kept-all, emit-part, emit-type, emit-kind, emit-number}
 use Rattle.sheet.specs.Contents.{Slot}
 use Rattle.sheet.proofs.FilledRecords.{slot-laid}
 use Rattle.write.proofs.SlotColumns.{slotStored, slot-covers}

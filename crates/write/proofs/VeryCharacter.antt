@@ -115,13 +115,13 @@ module _ (name : List ℕ) (n : length name ≡ 20) (st : State) (e : Entry) (a 
   order : InOrder 0 (fieldsOf (e .slot))
   order = rw of-slot at (fields-in-order r)
 
-  number-filled : numbered (e .slot) ≡ true → Numbered r
-  number-filled h j = field-digits r l delegaNumber [] 0 (lit≤ tt, lit≤ tt, lit≤ tt, tt) 7 (lit≤ tt) (rw (number-digits-filled name n e a h) (written-digits 7 (e .delega))) j
+  number-of-digits : numbered (e .slot) ≡ true → Numbered r
+  number-of-digits h j = field-digits r l delegaNumber [] 0 (lit≤ tt, lit≤ tt, lit≤ tt, tt) 7 (lit≤ tt) (rw (number-digits-filled name n e a h) (written-digits 7 (e .delega))) j
 
-  pub entry-names-character : (i : ℕ) × (p ≡ i + 1) × FirstNonDigit (keyedFields (e .slot)) (e .bytes) i
+  entry-names-character : (i : ℕ) × (p ≡ i + 1) × FirstNonDigit (keyedFields (e .slot)) (e .bytes) i
   entry-names-character =
       let t = kept-seven-at name st r l (seven-of-kept name st e f .1) in
-      (t .0, t .1, keyed-first r (e .bytes) (a .in-slot) order number-filled (filled-byte name n e a) (rw of-slot at (t .2)))
+      (t .0, t .1, keyed-first r (e .bytes) (a .in-slot) order number-of-digits (filled-byte name n e a) (rw of-slot at (t .2)))
 
 -- "7 names the first non-digit's own position .. in the sheets": of any sheet that is refused with 7, as it was keyed in the record told
 pub sheet-names-character : (sheet room : List ℕ) (k p : ℕ) → refusalWritten (writingOf sheet room) ≡ refusal 7 k p →
