@@ -222,6 +222,7 @@ refused("own-9-with-its-place", flow(delega(regioni=[(0, 0), (5, 0)])), (1, 5, 1
 refused("own-14-with-its-place", flow(delega(erario=[(7499, 0)], regioni=[(2500, 0), (0, 10000)])), (1, 1, 1), (7500, 0),
         no(14, 9, 2), JUDGED)
 refused("own-20-with-its-place", plain().put(8, 53, "000000000007501"), (1, 5, 1), (10001, 0), no(20, 8, 53), JUDGED)
+refused("own-17-no-such-day", plain(date="310215"), (1, 5, 1), (10001, 0), no(17, 1, 14), JUDGED + "; 02, ask 4: valid only if the day exists in that month")
 refused("own-3-in-a-filler", plain().put(8, 120, b"\x7f"), (1, 5, 1), (1, 0), no(3, 8, 120), JUDGED)
 refused("own-4-behind-the-tail", plain().add(bytearray(b" " * 120)), (1, 5, 1), (10001, 0), no(4, 9, 2), JUDGED)
 refused("own-5-without-tail", plain().keep(7), (1, 5, 1), (10001, 0), no(5, 8, 0), JUDGED)

@@ -112,13 +112,20 @@ for word, place, mark in (("slash-first", 0, "/"), ("slash-last", 19, "/"), ("sl
     case("name-" + word, no(16, 1, 20), plain(name=name[:place] + mark + name[place + 1:]),
          "01, Name: no / and no : in it, at the start of the name")
 for date in ("000625", "320625", "990625", "100025", "101325", "109925", "000000", "999999", "311300", "320100", "400125", "012025"):
-    case("bad-date-" + date, no(17, 1, 14), plain(date=date), "01, F4: the day is 01 to 31 and the month 01 to 12")
+    case("bad-date-" + date, no(17, 1, 14), plain(date=date), "01, F4, and 02, ask 4: no month has such a day, no year such a month")
+for date in ("310215", "320116", "300216", "310216", "320316", "310416", "320516", "310616", "320716", "320816", "310916", "321016", "311116",
+             "321216", "310226"):
+    case("no-such-day-" + date, no(17, 1, 14), plain(date=date), "02, ask 4: valid only if the day exists in that month")
+for date in ("290215", "290201", "290202", "290203", "290214", "290218", "290298", "290299", "300200", "290210", "290222"):
+    case("no-leap-day-" + date, no(17, 1, 14), plain(date=date), "02, ask 4: a leap year each fourth, and no other")
 case("date-year-first", no(17, 1, 14), plain(date="991231"), "01, F4: day, month, two-digit year")
 case("date-us-order", no(17, 1, 14), plain(date="063125"), "01, F4: day, month, two-digit year")
 case("head-7-before-16", no(7, 1, 15), plain(date="1O0625", name="A/B"), "01: 7 before 16")
 case("head-16-before-17", no(16, 1, 20), plain(date="320625", name="A/B"),
      "01: 16 before 17, although the date stands first")
 case("head-7-before-17", no(7, 1, 16), plain(date="32 625"), "01: 7 before 17")
+case("head-16-before-17-no-such-day", no(16, 1, 20), plain(date="310215", name="A/B"), "02, ask 4: its number and place stay")
+case("head-7-before-17-no-such-day", no(7, 1, 19), plain(date="31021S"), "02, ask 4: its number and place stay")
 
 # --- 16, 18, 19, 20: the tail -----------------------------------------------------------------------------------------
 case("tail-name-first", no(16, 8, 20), plain().put(8, 20, "X"), "01, Name: the tail's equals the head's")

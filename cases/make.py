@@ -7,6 +7,7 @@ from pathlib import Path
 sys.dont_write_bytecode = True
 
 import sound, order, fields, amounts, several, samples      # each adds its cases to the list
+import dates
 from case import CASES
 
 ROOT = Path(__file__).resolve().parent.parent
@@ -28,6 +29,11 @@ data_dir = ROOT / "crates" / "judge_cases" / "data"
 data_dir.mkdir(parents=True, exist_ok=True)
 (data_dir / "flows").write_bytes(flows)
 (data_dir.parent / "stdout").write_text("".join(line + "\n" for line in stdout), encoding="ascii", newline="\n")
+
+date_dir = ROOT / "crates" / "date_cases"
+(date_dir / "data").mkdir(parents=True, exist_ok=True)
+(date_dir / "data" / "flow").write_bytes(dates.FLOW)
+(date_dir / "stdout").write_text("".join(line + "\n" for line in dates.answers()), encoding="ascii", newline="\n")
 
 (ROOT / "samples").mkdir(exist_ok=True)
 for file, built in [*samples.SAMPLES.items(), *samples.SHEETS.items()]:

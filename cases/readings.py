@@ -37,6 +37,8 @@ two = full()            # 20 records, deleghe of 86000 and 60000
 alike = flow(delega(regioni=[(1, 0), (2, 0), (3, 0)]), delega(regioni=[(4, 0), (5, 0)], imu=[(6, 1)]))
 bad = changed(plain(), 6, 45, b"N")         # 40-06 says N for a positive balance
 comma = plain().put(4, 29, "000000000100,00")
+no_such_day = plain(date="290215")
+DAY = "01: every call on a flow judges it first; 02, ask 4: valid only if the day exists in that month"
 SEVEN = "01: every call on a flow judges it first; 02, Ask 5: 7 names the first non-digit's own position"
 
 # --- One delega ---------------------------------------------------------------------------------------------------------
@@ -50,6 +52,7 @@ call("delega-zero", DELEGA, [0], two, ["REFUSED 21 0 0"], "01: a number that is 
 call("delega-above", DELEGA, [3], two, ["REFUSED 21 0 0"], "01: a number above the count is refused 21")
 call("delega-largest", DELEGA, [LARGEST], two, ["REFUSED 21 0 0"], "01: numbers of every size are taken")
 call("delega-of-a-flow-refused-7", DELEGA, [1], comma, ["REFUSED 7 4 41"], SEVEN)
+call("delega-of-a-flow-refused-17", DELEGA, [1], no_such_day, ["REFUSED 17 1 14"], DAY)
 call("delega-of-a-refused-flow", DELEGA, [0], bad, ["REFUSED 12 6 45"], "01: every call on a flow judges it first")
 call("delega-of-nothing", DELEGA, [1], b"", ["REFUSED 2 0 0"], "01: every call on a flow judges it first")
 call("delega-of-a-flow-too-long", DELEGA, [1], b" " * 65521, ["REFUSED 1 0 0"], "01: every call on a flow judges it first")
@@ -66,6 +69,7 @@ for name, numbers in [("no-delega", (3, 5, 1)), ("delega-zero", (0, 5, 1)), ("ab
                       ("balance-subtype", (1, 6, 1)), ("no-subtype", (1, 9, 1)), ("subtype-zero", (1, 0, 1)), ("largest", (LARGEST, LARGEST, LARGEST))]:
     call("line-" + name, LINE, list(numbers), alike, ["REFUSED 21 0 0"], "01: 21, no such delega, section or line")
 call("line-of-a-flow-refused-7", LINE, [1, 5, 1], comma, ["REFUSED 7 4 41"], SEVEN)
+call("line-of-a-flow-refused-17", LINE, [1, 5, 1], no_such_day, ["REFUSED 17 1 14"], DAY)
 call("line-of-a-refused-flow", LINE, [9, 9, 9], bad, ["REFUSED 12 6 45"], "01: every call on a flow judges it first")
 call("line-of-119-bytes", LINE, [1, 5, 1], bytes(plain())[:119], ["REFUSED 2 0 0"], "01: every call on a flow judges it first")
 
@@ -77,6 +81,7 @@ call("step-at-the-end", STEP, [8], plain(), ["NO MORE", "PLACE 8"], "01, the wal
 call("step-beyond-the-end", STEP, [9], plain(), ["NO MORE", "PLACE 9"], "01, the walk: at a place beyond it too")
 call("step-from-the-largest-place", STEP, [LARGEST], plain(), ["NO MORE", "PLACE %d" % LARGEST], "01, the walk: at a place beyond it too")
 call("step-of-a-flow-refused-7", STEP, [3], comma, ["REFUSED 7 4 41", "PLACE 3"], SEVEN)
+call("step-of-a-flow-refused-17", STEP, [3], no_such_day, ["REFUSED 17 1 14", "PLACE 3"], DAY)
 call("step-of-a-refused-flow", STEP, [0], bad, ["REFUSED 12 6 45", "PLACE 0"], "01, the walk: a refused step does the same with its refusal")
 call("step-of-a-refused-flow-later", STEP, [5], bad, ["REFUSED 12 6 45", "PLACE 5"], "01, the walk: the place stays")
 call("step-of-nothing", STEP, [0], b"", ["REFUSED 2 0 0", "PLACE 0"], "01, the walk: a refused step does the same with its refusal")

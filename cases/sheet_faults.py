@@ -175,8 +175,16 @@ for word, position, text in (("slash-first", 20, "/"), ("slash-last", 39, "/"), 
     refused("16-" + word, least().put("F4", position, text), no(16, 1, 20), NAME)
 refused("16-although-the-tail-agrees", least().put("F4", 25, "/").put("EF", 20, "F24-2/250610-001    "), no(16, 1, 20), NAME)
 for word, text in (("day-00", "000625"), ("day-32", "320125"), ("month-00", "100025"), ("month-13", "101325")):
-    refused("17-" + word, least().put("F4", 14, text), no(17, 1, 14), "01: valid when the day is 01 to 31 and the month 01 to 12")
+    refused("17-" + word, least().put("F4", 14, text), no(17, 1, 14), "01, F4, and 02, ask 4: no month has such a day, no year such a month")
+DAY = "02, ask 4: valid only if the day exists in that month; a leap year each fourth"
+for text in ("310215", "310416", "290215", "290218", "300216", "310925"):
+    refused("17-no-such-day-" + text, least().put("F4", 14, text), no(17, 1, 14), DAY)
+for text in ("290216", "290200", "310116", "300425", "280299"):
+    last_day = least().put("F4", 14, text)
+    last_day.flow.put(1, 14, text)
+    written("date-" + text, last_day, LEAST, DAY)
 refused("16-before-17", least().put("F4", 14, "009925").put("F4", 39, ":"), no(16, 1, 20), "01, Refusals: in the order of their numbers")
+refused("16-before-17-no-such-day", least().put("F4", 14, "310215").put("F4", 39, ":"), no(16, 1, 20), "02, ask 4: its number and place stay")
 refused("7-before-16", least().put("F4", 14, "0099 5").put("F4", 39, ":"), no(7, 1, 18), "01, Refusals: in the order of their numbers")
 refused("4-before-17", least().put("F4", 14, "009925").put("F4", 2, "EF"), no(4, 1, 2), "01, Refusals: in the order of their numbers")
 tail_date = least().put("EF", 14, "9/9:99")

@@ -112,9 +112,13 @@ case("sums-over-in-all-four", yes(2, 24, 4, erario=(1999999999999998, 1999999999
      "Decision: a delega's debits and credits may pass fifteen digits while every stored field holds")
 
 # --- Head and tail ----------------------------------------------------------------------------------------------------
-for date in ("010100", "311299", "310226", "010126", "311226", "150600"):
+for date in ("010100", "311299", "010126", "311226", "150600",
+             "310116", "290216", "310316", "300416", "310516", "300616", "310716", "310816", "300916", "311016", "301116", "311216"):
     case("date-" + date, yes(1, 8, 7500, regioni=(10000, 2500)), plain(date=date),
-         "01, F4: valid when the day is 01 to 31 and the month 01 to 12; no calendar, any year")
+         "02, ask 4: valid if the day exists in that month; 2016 is a leap year")
+for date in ("290200", "290204", "290208", "290220", "290296", "280215", "280201", "280299"):
+    case("date-february-" + date, yes(1, 8, 7500, regioni=(10000, 2500)), plain(date=date),
+         "02, ask 4: years are 2000 to 2099, with a leap year each fourth, 2000 among them (Decision)")
 for name, text in (("blank", " " * 20), ("full-width", "ABCDEFGHIJKLMNOPQRST"), ("lower", "torrefazione sassovivo"[:20]),
                    ("marks", ".0;9~!-_\"'()*+,<=>?@"), ("lead-blank", "                   Z")):
     case("name-" + name, yes(1, 8, 7500, regioni=(10000, 2500)), plain(name=text),

@@ -1,7 +1,7 @@
--- Believed. The rules on amounts: a line's, a section's sign and balance, a delega's final balance; and the rule on dates.
-use Prim.Native.Nat.{ℕ, _+_, _-_, _/_, _%_}
+-- Believed. The rules on amounts: a line's, a section's sign and balance, a delega's final balance.
+use Prim.Native.Nat.{ℕ, _+_, _-_}
 use mathlib.Core.Bool.{Bool, true, false, cond}
-use lib.Dec.{eqb, ltb, leb}
+use lib.Dec.{eqb, ltb}
 use Rattle.layout.specs.Sections.{sectionAt}
 use Rattle.amounts.specs.declared.Sums.{Sums}
 use Rattle.amounts.specs.declared.Outcome.{Outcome}
@@ -32,10 +32,3 @@ unfoldable pub lineFault : ℕ → ℕ → ℕ → Outcome
 lineFault s d c =
     cond (lineRight s d c) Pass
     (cond (eqb d 0) (cond (eqb c 0) (Fault 9 (sectionAt s .debit + 1)) (Fault 9 (sectionAt s .credit + 1))) (Fault 9 (sectionAt s .credit + 1)))
-
--- "creation date, day, month, two-digit year. It is valid when the day is 01 to 31 and the month 01 to 12"
-unfoldable pub within : ℕ → ℕ → ℕ → Bool
-within lo hi n = cond (leb lo n) (leb n hi) false
-
-unfoldable pub dateRight : ℕ → Bool
-dateRight v = cond (within 1 31 (v / 10000)) (within 1 12 (v / 100 % 100)) false

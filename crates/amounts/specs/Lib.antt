@@ -1,3 +1,4 @@
 pub mod Outcomes
 pub mod Amounts
 pub mod Names
+pub mod Dates

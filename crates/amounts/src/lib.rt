@@ -1,8 +1,10 @@
 // The rules on what a field holds: amounts, dates and support names; and the outcome of a check.
+mod dates;
 mod names;
 
 ghost use mathlib.Core.Path.{_≡_};
-ghost use Rattle.amounts.specs.Amounts.{signOf, apart, finalOf, creditRight, lineRight, lineFault, within, dateRight};
+ghost use Rattle.amounts.specs.Amounts.{signOf, apart, finalOf, creditRight, lineRight, lineFault};
+pub use dates::date_right;
 pub use names::name_right;
 pub use names::same_bytes;
 
@@ -79,20 +81,4 @@ pub fn line_fault(s: usize, d: u64, c: u64) -> Outcome
         }
     }
     Outcome::Fault(9, section.credit + 1)
-}
-
-fn is_within(lo: u64, hi: u64, n: u64) -> bool
-    ensures { λ r. ⌜ r ≡ within lo hi n ⌝ }
-{
-    if lo <= n { n <= hi } else { false }
-}
-
-// Whether six digits are a date, day and month and year.
-pub fn date_right(v: u64) -> bool
-    ensures { λ r. ⌜ r ≡ dateRight v ⌝ }
-{
-    if is_within(1, 31, v / 10000) {
-        return is_within(1, 12, v / 100 % 100);
-    }
-    false
 }

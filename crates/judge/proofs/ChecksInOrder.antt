@@ -25,7 +25,8 @@ use Rattle.amounts.specs.declared.Outcome.the-variants.{Pass, Fault}
 use Rattle.rules.specs.declared.State.{State}
 use Rattle.amounts.specs.Outcomes.{first, firstOf}
 use Rattle.order.specs.Order.{stands, full, typeStands, standing}
-use Rattle.amounts.specs.Amounts.{lineRight, lineFault, dateRight}
+use Rattle.amounts.specs.Amounts.{lineRight, lineFault}
+use Rattle.amounts.specs.Dates.{dateRight}
 use Rattle.amounts.specs.Names.{nameRight, sameBytes}
 use Rattle.rules.specs.Stored.{Stored, Value, Mark, sectionSums, storedBalance, storedOf, right, faultOf, wrong}
 use Rattle.rules.specs.Checks.{charFault, orBad, badFields, carried, numberFault, negativeFault, headName, tailName, dateFault, ownChecks, ownFault, fault}

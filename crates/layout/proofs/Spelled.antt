@@ -75,7 +75,7 @@ no-forty a b h i =
     unnamed sectionKind a b
     (λ p q u v. no-section-number _ (λ l m. h (omega arith) (omega arith) (omega arith)) (λ l m. i (omega arith) (omega arith) (omega arith)))
 
-four-on : (k b : ℕ) → k ≤ b → (b ≡ k → ⊥) → (b ≡ k + 1 → ⊥) → (b ≡ k + 2 → ⊥) → (b ≡ k + 3 → ⊥) → k + 4 ≤ b
+pub four-on : (k b : ℕ) → k ≤ b → (b ≡ k → ⊥) → (b ≡ k + 1 → ⊥) → (b ≡ k + 2 → ⊥) → (b ≡ k + 3 → ⊥) → k + 4 ≤ b
 four-on k b h d e f g = omega arith
 
 -- a character that is none of '1' to '8' is not between them

@@ -21,7 +21,8 @@ use Rattle.amounts.specs.declared.Outcome.{Outcome}
 use Rattle.amounts.specs.declared.Outcome.the-variants.{Pass, Fault}
 use Rattle.amounts.specs.Outcomes.{first, firstOf}
 use Rattle.order.specs.Order.{standing}
-use Rattle.amounts.specs.Amounts.{lineFault, dateRight}
+use Rattle.amounts.specs.Amounts.{lineFault}
+use Rattle.amounts.specs.Dates.{dateRight}
 use Rattle.amounts.specs.Names.{nameRight, sameBytes}
 use Rattle.rules.specs.Stored.{storedOf, wrong}
 

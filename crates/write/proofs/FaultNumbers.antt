@@ -19,7 +19,8 @@ use Rattle.layout.specs.Fields.{creationDate, supportName, bytesOf, valueOf, de
 use Rattle.amounts.specs.declared.Outcome.{Outcome}
 use Rattle.amounts.specs.declared.Outcome.the-variants.{Pass, Fault}
 use Rattle.amounts.specs.Outcomes.{first}
-use Rattle.amounts.specs.Amounts.{lineRight, lineFault, dateRight}
+use Rattle.amounts.specs.Amounts.{lineRight, lineFault}
+use Rattle.amounts.specs.Dates.{dateRight}
 use Rattle.amounts.specs.Names.{nameRight, sameBytes}
 use Rattle.order.specs.declared.Stage.{Stage}
 use Rattle.order.specs.Order.{among, stands, full, typeStands, standing}

@@ -3,7 +3,7 @@ use mathlib.Core.Logic.{⊎-elim}
 use Rattle.amounts.proofs.Lines.{right-no-debit, right-debit, fault-no-debit, fault-debit}
 use Rattle.layout.proofs.Table.{near-rule}
 use native.Mathlib.Omega.{arith}
-use Rattle.amounts.specs.Amounts.{signOf, apart, finalOf, creditRight, lineRight, lineFault, within, dateRight}
+use Rattle.amounts.specs.Amounts.{signOf, apart, finalOf, creditRight, lineRight, lineFault}
 use borrow.Author.Tests.{eq-eqb, ne-eqb, lt-ltb, le-ltb, le-leb, lt-leb}
 use borrow.Author.Needs.{needs}
 use Rattle.amounts.proofs.line_fault.Statement.{statement}

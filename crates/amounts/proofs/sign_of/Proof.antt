@@ -1,4 +1,4 @@
-use Rattle.amounts.specs.Amounts.{signOf, apart, finalOf, creditRight, lineRight, lineFault, within, dateRight}
+use Rattle.amounts.specs.Amounts.{signOf, apart, finalOf, creditRight, lineRight, lineFault}
 use borrow.Author.Tests.{eq-eqb, ne-eqb, lt-ltb, le-ltb, le-leb, lt-leb}
 use Rattle.amounts.proofs.sign_of.Statement.{statement}
 use Rattle.amounts.proofs.sign_of.Tie as tie
