@@ -6,8 +6,10 @@
 
 #![allow(dead_code, unknown_lints, unexpected_cfgs)]
 
+mod calendar;
 mod calls;
 mod columns;
+mod dates;
 mod ffi;
 mod flows;
 mod memory;

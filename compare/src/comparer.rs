@@ -1,9 +1,11 @@
 //! Makes each call on the library and on the reference, from the same bytes,
 //! and compares everything that either leaves behind. The fast judge, which
-//! judges and no more, is held to the reference's judgement.
+//! judges and no more, is held to the reference's judgement, and all of them to
+//! what the generator says of the head.
 
 use crate::calls::{Call, MOST_NUMBERS, NO_ROOM};
 use crate::ffi;
+use crate::heads;
 use crate::lent::{Lent, Place};
 use crate::quick;
 use crate::rival;
@@ -32,6 +34,8 @@ pub struct Difference {
     pub others: Vec<(&'static str, Left)>,
     /// Bytes or numbers beside the lent ones were written.
     pub beside: bool,
+    /// What the generator says, where all sides are the same and it is not.
+    pub says: Option<String>,
 }
 
 pub type Compared<T> = Result<T, Box<Difference>>;
@@ -109,15 +113,19 @@ impl Comparer {
         let beside = !self.lent.kept(&lent.flow) || !self.lent_room.kept(&lent.room);
         let room = self.lent_room.numbers(&lent.room).to_vec();
         let left = self.lent.bytes(&lent.flow);
+        let mut says = None;
         if library == code && room == self.room && *left == self.after[..] && quick_same && !beside {
-            return Ok(code);
+            says = heads::unlike(flow, code, &self.room);
+            if says.is_none() {
+                return Ok(code);
+            }
         }
         let mut others = vec![(ffi::NAME, Left { code: library, room, flow: left.to_vec() })];
         if let Some(code) = quick {
             others.push((quick::NAME, Left { code, room: self.quick_room.clone(), flow: flow.to_vec() }));
         }
         let reference = Left { code, room: self.room.clone(), flow: self.after.clone() };
-        Err(Box::new(Difference { call, flow: flow.to_vec(), room: before, reference, others, beside }))
+        Err(Box::new(Difference { call, flow: flow.to_vec(), room: before, reference, others, beside, says }))
     }
 
     /// The fast judge's answer where the call is a judgement.
@@ -168,7 +176,7 @@ fn same_judgement(flow: &[u8]) -> Compared<()> {
     let others = vec![(quick::NAME, Left { code: quick, room: quick_room, flow: flow.to_vec() })];
     let reference = Left { code, room, flow: after };
     let (call, flow) = (Call::Judge, flow.to_vec());
-    Err(Box::new(Difference { call, flow, room: before, reference, others, beside: false }))
+    Err(Box::new(Difference { call, flow, room: before, reference, others, beside: false, says: None }))
 }
 
 /// How often each call was answered how.

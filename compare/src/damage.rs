@@ -2,11 +2,20 @@
 //! is for the library and the reference to say, since damages meet.
 
 use crate::columns::{Kind::*, *};
+use crate::dates;
+use crate::heads;
 use crate::rng::Rng;
 use crate::sound::{get, plan, put, write, DelegaPlan, Flow, Plan, Pool, SectionPlan, Size};
 
-/// A flow to be judged: sound, damaged in one place or more, or wild.
-pub fn any_flow(rng: &mut Rng, pool: &Pool) -> Vec<u8> {
+/// A flow to be judged.
+pub struct Made {
+    pub flow: Vec<u8>,
+    /// The number that the generator says, where it knows it.
+    pub known: Option<u64>,
+}
+
+/// A flow that is sound, damaged in one place or more, or wild.
+pub fn any_flow(rng: &mut Rng, pool: &Pool) -> Made {
     let size = match rng.below(1000) {
         0..=99 => Size::Least,
         100..=529 => Size::Tiny,
@@ -19,11 +28,11 @@ pub fn any_flow(rng: &mut Rng, pool: &Pool) -> Vec<u8> {
 }
 
 /// The same with the size given.
-pub fn flow_of(rng: &mut Rng, pool: &Pool, size: Size) -> Vec<u8> {
+pub fn flow_of(rng: &mut Rng, pool: &Pool, size: Size) -> Made {
     let plan = plan(rng, size);
     match rng.below(100) {
-        0..=11 => write(rng, pool, &plan).bytes,
-        12..=17 => wild(rng, pool, &plan),
+        0..=11 => Made { flow: write(rng, pool, &plan).bytes, known: Some(0) },
+        12..=17 => Made { flow: wild(rng, pool, &plan), known: None },
         18..=79 => damaged(rng, pool, plan, 1),
         80..=91 => damaged(rng, pool, plan, 2),
         _ => {
@@ -34,7 +43,7 @@ pub fn flow_of(rng: &mut Rng, pool: &Pool, size: Size) -> Vec<u8> {
 }
 
 /// A flow damaged this many times, each aimed at a refusal from 1 to 20.
-pub fn damaged(rng: &mut Rng, pool: &Pool, mut plan: Plan, damages: u64) -> Vec<u8> {
+pub fn damaged(rng: &mut Rng, pool: &Pool, mut plan: Plan, damages: u64) -> Made {
     let mut left = Vec::new();
     for _ in 0..damages {
         let aim = rng.between(1, 20);
@@ -49,7 +58,10 @@ pub fn damaged(rng: &mut Rng, pool: &Pool, mut plan: Plan, damages: u64) -> Vec<
     for &aim in left.iter().filter(|&&aim| aim <= 2) {
         in_length(rng, pool, &mut flow.bytes, aim);
     }
-    flow.bytes
+    // Nothing is wrong but in the head, whose faults the generator knows.
+    let dates_alone = left.len() as u64 == damages && left.iter().all(|&aim| aim == 17);
+    let known = dates_alone.then(|| heads::fault(flow.record(0)).map_or(0, |(number, _)| number));
+    Made { flow: flow.bytes, known }
 }
 
 /// Damages that leave all other numbers right. Tells whether it did one.
@@ -335,13 +347,7 @@ fn in_records(rng: &mut Rng, flow: &mut Flow, aim: u64) {
         16 => wrong_name(rng, flow),
         17 => {
             if let Some(at) = find(rng, flow, |kind| kind == Head) {
-                let (position, value) = match rng.below(4) {
-                    0 => (DATE, 0),
-                    1 => (DATE, if rng.one_in(2) { 32 } else { rng.between(32, 99) }),
-                    2 => (DATE + 2, 0),
-                    _ => (DATE + 2, if rng.one_in(2) { 13 } else { rng.between(13, 99) }),
-                };
-                put(flow.record(at), position, 2, value);
+                dates::spoil(rng, flow.record(at));
             }
         }
         18 => tail_field(rng, flow, TAIL_DELEGHE, COUNT),

@@ -2,7 +2,7 @@
 
 use crate::columns::*;
 use crate::rng::Rng;
-use crate::sound::{self, Amounts, DelegaPlan, Filler, Flow, Plan, Pool, SectionPlan};
+use crate::sound::{self, one_by_one, Amounts, Flow, Plan, Pool, SectionPlan};
 
 pub const CASES: [&str; 9] = ["8", "80", "546", "wide", "large", "deleghe", "last-byte", "tail", "early"];
 
@@ -13,7 +13,7 @@ const MOST_DELEGHE: usize = (MOST_RECORDS - 2) / 5;
 pub fn flow(case: &str) -> Option<Vec<u8>> {
     let mut rng = Rng::new(24, 0, 0);
     let plan = match case {
-        "8" => printed(),
+        "8" => sound::printed(),
         "80" => sound::plan_of(&mut rng, 80, Amounts::Middle),
         "546" | "last-byte" | "tail" | "early" => sound::plan_of(&mut rng, MOST_RECORDS, Amounts::Middle),
         "wide" => sound::plan_of(&mut rng, MOST_RECORDS, Amounts::Wide),
@@ -40,11 +40,6 @@ fn last_record(flow: &mut Flow) -> &mut [u8] {
     flow.record(last)
 }
 
-/// Document 01's printed example.
-fn printed() -> Plan {
-    one_by_one(vec![vec![SectionPlan { section: 2, lines: vec![(10_000, 0), (0, 2500)] }]])
-}
-
 /// As many deleghe as a flow can hold, each with one line in one section, the
 /// five sections in turn; the last has as many lines as make up 546 records.
 fn most_deleghe(rng: &mut Rng) -> Plan {
@@ -69,15 +64,6 @@ fn large() -> Plan {
         (0..count).map(|line| (12_345_678_901 + 7 * number + line, 2_345_678_901 + number + line)).collect()
     };
     one_by_one((0..60).map(|number| vec![SectionPlan { section: 0, lines: lines(number) }]).collect())
-}
-
-fn one_by_one(deleghe: Vec<Vec<SectionPlan>>) -> Plan {
-    Plan {
-        deleghe: deleghe.into_iter().map(|sections| DelegaPlan { sections, receipts: &[] }).collect(),
-        date: *b"100625",
-        name: *b"F24-20250610-001    ",
-        filler: Filler::Mixed,
-    }
 }
 
 /// A line and its amounts.

@@ -3,11 +3,14 @@
 
 #![allow(dead_code, unknown_lints, unexpected_cfgs)]
 
+mod calendar;
 mod calls;
 mod columns;
 mod comparer;
 mod correction;
+mod dates;
 mod ffi;
+mod heads;
 mod lent;
 mod quick;
 mod report;

@@ -3,13 +3,17 @@
 
 #![allow(unknown_lints, unexpected_cfgs)]
 
+mod calendar;
 mod calls;
+mod century;
 mod columns;
 mod comparer;
 mod correction;
 mod damage;
+mod dates;
 mod ffi;
 mod frames;
+mod heads;
 mod lent;
 mod probe;
 mod quick;
@@ -28,6 +32,8 @@ mod writing;
 
 use calls::Call;
 use comparer::{Compared, Comparer, Difference};
+use damage::Made;
+use heads::Dates;
 use rng::Rng;
 use sevens::{Character, Sevens};
 use sound::{Amounts, Pool, Size};
@@ -39,6 +45,7 @@ use writing::Writings;
 const USAGE: &str = "usage:
   compare SEED FLOWS CORRECTIONS [SHEETS]    compares so many random cases
   compare again SEED KIND INDEX              compares one of these once more; KIND is flow, correction or sheet
+  compare dates                              compares every six digits as the date of a flow and of a sheet
   compare frames FILE..                      compares the flows of framed files
   compare files FILE..                       compares files, a flow each
   compare sheets FILE..                      compares files, a sheet each
@@ -100,6 +107,7 @@ fn shown(case: &str, written: std::io::Result<String>) -> ExitCode {
 fn run(words: &[&str]) -> Result<(), Failure> {
     match *words {
         ["again", seed, kind, index] => again(number(seed)?, kind, number(index)?),
+        ["dates"] => century::compare(),
         ["frames", ref files @ ..] if !files.is_empty() => compare_frames(files),
         ["files", ref files @ ..] if !files.is_empty() => compare_files(files),
         ["sheets", ref files @ ..] if !files.is_empty() => sheets::compare_files(files),
@@ -172,12 +180,15 @@ fn compare(seed: u64, flows: u64, corrections: u64, sheets: u64) -> Result<(), F
     let (times, answer) = writings.tally.rarest();
     let written = Some((times, format!("write {answer}")));
     let (judged_at, written_at) = (shapes.sevens.rarest("judge"), writings.tally.sevens.rarest_place("write"));
+    let (judged_dates, written_dates) = (shapes.dates.rarest("judge"), writings.tally.dates.rarest("write"));
     for (least, cases, full) in [
         (judged, flows, FULL_FLOWS),
         (judged_at, flows, FULL_FLOWS),
+        (judged_dates, flows, FULL_FLOWS),
         (corrected, corrections, FULL_CORRECTIONS),
         (written, sheets, FULL_SHEETS),
         (written_at, sheets, FULL_SHEETS),
+        (written_dates, sheets, FULL_SHEETS),
     ] {
         if let Some((times, answer)) = least.filter(|_| cases > 0) {
             println!("rarest: {answer}, {times} times");
@@ -212,8 +223,11 @@ fn progress_past(before: u64, now: u64, of: u64, what: &str) {
 /// One flow: judged, then asked for its deleghe and lines.
 fn flow_case(comparer: &mut Comparer, pool: &Pool, seed: u64, index: u64, shapes: &mut Shapes) -> Compared<()> {
     let mut rng = Rng::new(seed, 1, index);
-    let flow = damage::any_flow(&mut rng, pool);
+    let Made { flow, known } = damage::any_flow(&mut rng, pool);
     let code = comparer.compare(&mut rng, Call::Judge, &flow)?;
+    let says = known.unwrap_or(code);
+    assert!(code == says, "seed {seed}, flow {index}: it is answered {code}, the generator says {says}");
+    shapes.dates.count(&flow, code);
     if code == 7 {
         shapes.sevens.count(&told(comparer, &flow, (seed, index)));
     }
@@ -306,7 +320,7 @@ fn correction_case(
         // A flow that is refused is not corrected.
         let call = correction::choose(&mut rng, &plan);
         let damages = rng.between(1, 2);
-        let flow = damage::damaged(&mut rng, pool, plan, damages);
+        let flow = damage::damaged(&mut rng, pool, plan, damages).flow;
         comparer.compare(&mut rng, call, &flow)?;
         return Ok(());
     }
@@ -336,7 +350,7 @@ fn correction_case(
 }
 
 /// Accepted flows by size, by deleghe and by section, corrections made by what
-/// they changed, and flows refused 7 by the character told.
+/// they changed, flows refused 7 by the character told, and flows by the date.
 #[derive(Default)]
 struct Shapes {
     records: [u64; 6],
@@ -346,6 +360,7 @@ struct Shapes {
     /// Changed nothing, changed no sign, P to N, N to P.
     corrections: [u64; 4],
     sevens: Sevens,
+    dates: Dates,
 }
 
 impl Shapes {
@@ -397,6 +412,7 @@ impl Shapes {
         line("section used", &["01", "03", "05", "07", "17"], &self.sections);
         println!("accepted flows with a section's sum of more than fifteen digits: {}", self.beyond_fifteen);
         self.sevens.print("judge");
+        self.dates.print("judge");
     }
 }
 
@@ -408,7 +424,7 @@ fn again(seed: u64, kind: &str, index: u64) -> Result<(), Failure> {
     let compared = match kind {
         "flow" => {
             // Kept for a library that ends the program.
-            let flow = damage::any_flow(&mut Rng::new(seed, 1, index), &pool);
+            let flow = damage::any_flow(&mut Rng::new(seed, 1, index), &pool).flow;
             let to = folder().join("flow");
             fs::create_dir_all(folder()).and_then(|()| fs::write(&to, &flow)).map_err(|error| at(&to, error))?;
             println!("flow of {} bytes: {}", flow.len(), to.display());
@@ -489,7 +505,7 @@ fn seeds(seed: u64, count: u64, folder: &Path) -> Result<(), Failure> {
     fs::create_dir_all(folder).map_err(|error| at(folder, error))?;
     for index in 0..count {
         let mut rng = Rng::new(seed, 5, index);
-        let flow = damage::flow_of(&mut rng, &pool, if index % 8 == 0 { Size::Small } else { Size::Tiny });
+        let flow = damage::flow_of(&mut rng, &pool, if index % 8 == 0 { Size::Small } else { Size::Tiny }).flow;
         if flow.len() <= 6000 {
             let file = folder.join(format!("flow-{index:05}"));
             fs::write(&file, flow).map_err(|error| at(&file, error))?;

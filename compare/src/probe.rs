@@ -1,10 +1,12 @@
 //! An accepted flow with one thing changed, at the places where a judge that
 //! reads whole words goes wrong: the characters beside the digits, the ends of
-//! fields, single digits, bytes at the edge of what is allowed. Probes are made
-//! from random numbers of their own, so that the flows beside them are what
-//! they are without them, and are not tallied.
+//! fields, single digits, bytes at the edge of what is allowed; or with another
+//! date close to its own, which may be none. Probes are made from random numbers
+//! of their own, so that the flows beside them are what they are without them,
+//! and are not tallied.
 
 use crate::columns::{Kind::*, *};
+use crate::dates;
 use crate::rng::Rng;
 
 /// The flow, which was accepted, with one change, and the number that the
@@ -15,11 +17,12 @@ pub fn probe(rng: &mut Rng, accepted: &[u8]) -> (Vec<u8>, Option<u64>) {
     let at = rng.place(records);
     let record = &mut flow[at * RECORD..(at + 1) * RECORD];
     let mut known = None;
-    match rng.below(5) {
+    match rng.below(6) {
         0 => known = beside_digits(rng, record),
         1 => record[edge(rng, RECORD)] = rng.pick(&[0, 31, 127, 128, 160, 255]),
         2 => wrong_number(rng, record),
         3 => one_digit(rng, &mut flow),
+        4 => known = Some(if dates::change(rng, &mut flow) { 0 } else { 17 }),
         _ => {
             // One record too many, which may have a bad byte besides.
             flow.extend_from_slice(&[b' '; RECORD]);

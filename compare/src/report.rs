@@ -32,6 +32,9 @@ pub fn differing(difference: &Difference) -> String {
         .filter(|(_, left)| left.code != reference.code || left.room != reference.room || left.flow != reference.flow)
         .map(|&(name, _)| name)
         .collect();
+    if difference.says.is_some() {
+        return "generator".to_string();
+    }
     if names.is_empty() {
         // Nothing but bytes beside the memory lent to it.
         return ffi::NAME.to_string();
@@ -41,9 +44,12 @@ pub fn differing(difference: &Difference) -> String {
 
 fn text(case: &str, difference: &Difference) -> String {
     let mut text = String::new();
-    let Difference { call, flow, room, reference, others, beside } = difference;
+    let Difference { call, flow, room, reference, others, beside, says } = difference;
     let _ = writeln!(text, "case: {case}");
     let _ = writeln!(text, "differs from the reference: the {}", differing(difference));
+    if let Some(says) = says {
+        let _ = writeln!(text, "{says}");
+    }
     let _ = writeln!(text, "call: {call}, flow of {} bytes, room for {} numbers", flow.len(), room.len());
     let _ = writeln!(text, "room before: {room:?}");
     let sides = others.iter().map(|(name, left)| (*name, left)).chain([("reference", reference)]);

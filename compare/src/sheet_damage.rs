@@ -4,6 +4,8 @@
 
 use crate::columns::{Kind::*, *};
 use crate::damage;
+use crate::dates;
+use crate::heads;
 use crate::rng::Rng;
 use crate::sevens;
 use crate::sheet::{self, filled, read, Part, Sheet, Size};
@@ -39,7 +41,8 @@ enum Aim {
     Room,
 }
 
-const AIMS: [Aim; 16] = [
+/// Each alike, but for the date, which is wrong in seven ways.
+const AIMS: [Aim; 17] = [
     Aim::Character,
     Aim::SlotType,
     Aim::SlotSubtype,
@@ -50,6 +53,7 @@ const AIMS: [Aim; 16] = [
     Aim::LineRule,
     Aim::Negative,
     Aim::Name,
+    Aim::Date,
     Aim::Date,
     Aim::Unfit,
     Aim::CountDigit,
@@ -170,10 +174,16 @@ fn damaged(rng: &mut Rng, pool: &Pool, mut plan: Plan, damages: u64) -> Case {
     if damages == 1 && (aims[0] == Aim::Room || aims[0] == Aim::Unfit) {
         known = Some(says(&sheet.flow, room, aims[0] == Aim::Unfit));
     }
-    if damages == 1 && aims[0] == Aim::Digit && sevens::in_sheet(&bytes).is_some() {
-        // Where there is no delega it is the date, and F4 comes before 4.
+    let wrong = match aims[0] {
+        _ if damages > 1 => None,
+        Aim::Digit => sevens::in_sheet(&bytes).map(|_| 7),
+        Aim::Date => heads::fault(&bytes).map(|(number, _)| number),
+        _ => None,
+    };
+    if let Some(number) = wrong {
+        // Where there is no delega it is in the head, and F4 comes before 4.
         known = Some(match says(&sheet.flow, room, false) {
-            0 | 4 => 7,
+            0 | 4 => number,
             other => other,
         });
     }
@@ -276,14 +286,8 @@ fn in_parts(rng: &mut Rng, sheet: &mut Sheet, aim: Aim) {
         }
         Aim::Name => wrong_name(rng, sheet),
         Aim::Date => {
-            let (position, value) = match rng.below(4) {
-                0 => (DATE, 0),
-                1 => (DATE, if rng.one_in(2) { 32 } else { rng.between(32, 99) }),
-                2 => (DATE + 2, 0),
-                _ => (DATE + 2, if rng.one_in(2) { 13 } else { rng.between(13, 99) }),
-            };
             if let Some((_, record)) = any(rng, sheet, |slot| slot == Head) {
-                put(record, position, 2, value);
+                dates::spoil(rng, record);
             }
         }
         Aim::CountDigit => {

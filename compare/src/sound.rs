@@ -3,6 +3,7 @@
 //! fills all other columns with random printable characters.
 
 use crate::columns::{Kind::*, *};
+use crate::dates;
 use crate::rng::Rng;
 
 #[derive(Clone)]
@@ -22,7 +23,7 @@ pub struct DelegaPlan {
 #[derive(Clone)]
 pub struct Plan {
     pub deleghe: Vec<DelegaPlan>,
-    pub date: [u8; 6],
+    pub date: [u8; DAY],
     pub name: [u8; NAME_WIDTH],
     pub filler: Filler,
 }
@@ -137,6 +138,23 @@ pub fn plan_of(rng: &mut Rng, records: usize, amounts: Amounts) -> Plan {
     finish(rng, deleghe, amounts)
 }
 
+/// Document 01's printed example, of eight records.
+#[allow(dead_code)]
+pub fn printed() -> Plan {
+    one_by_one(vec![vec![SectionPlan { section: 2, lines: vec![(10_000, 0), (0, 2500)] }]])
+}
+
+/// A plan of these sections, one delega after another.
+#[allow(dead_code)]
+pub fn one_by_one(deleghe: Vec<Vec<SectionPlan>>) -> Plan {
+    Plan {
+        deleghe: deleghe.into_iter().map(|sections| DelegaPlan { sections, receipts: &[] }).collect(),
+        date: *b"100625",
+        name: *b"F24-20250610-001    ",
+        filler: Filler::Mixed,
+    }
+}
+
 pub fn finish(rng: &mut Rng, mut deleghe: Vec<DelegaPlan>, amounts: Amounts) -> Plan {
     // What the tail's sum has left. A reserve keeps every section 17 possible.
     let reserve = 28 * MOST_RECORDS as u64;
@@ -150,7 +168,7 @@ pub fn finish(rng: &mut Rng, mut deleghe: Vec<DelegaPlan>, amounts: Amounts) -> 
     }
     Plan {
         deleghe,
-        date: date(rng),
+        date: dates::sound(rng),
         name: name(rng),
         filler: rng.pick(&[Filler::Spaces, Filler::Printable, Filler::Printable, Filler::Digits, Filler::Mixed]),
     }
@@ -364,15 +382,6 @@ fn top_up(rng: &mut Rng, deleghe: &mut [DelegaPlan]) {
         let at = rng.place(section.lines.len());
         section.lines[at].0 += room as u64;
     }
-}
-
-fn date(rng: &mut Rng) -> [u8; 6] {
-    let day = if rng.one_in(3) { rng.pick(&[1, 9, 10, 19, 20, 29, 30, 31]) } else { rng.between(1, 31) };
-    let month = if rng.one_in(3) { rng.pick(&[1, 9, 10, 11, 12]) } else { rng.between(1, 12) };
-    let year = rng.below(100);
-    let mut date = [0; 6];
-    put(&mut date, 1, 6, day * 10_000 + month * 100 + year);
-    date
 }
 
 /// Twenty printable characters with no "/" and no ":".

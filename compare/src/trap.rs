@@ -6,6 +6,7 @@ use std::sync::atomic::{AtomicU64, Ordering::Relaxed};
 pub const FLOW: u64 = 1;
 pub const CORRECTION: u64 = 2;
 pub const SHEET: u64 = 3;
+pub const DATE: u64 = 4;
 
 static KIND: AtomicU64 = AtomicU64::new(0);
 static SEED: AtomicU64 = AtomicU64::new(0);
@@ -40,12 +41,16 @@ extern "C" fn trapped(number: i32) {
     say(match KIND.load(Relaxed) {
         FLOW => b": flow ",
         SHEET => b": sheet ",
+        DATE => b": date ",
         _ => b": correction ",
     });
     say_number(INDEX.load(Relaxed));
-    say(b" of seed ");
-    say_number(SEED.load(Relaxed));
-    say(b" (once more: again SEED flow|correction|sheet INDEX)\n");
+    if KIND.load(Relaxed) != DATE {
+        say(b" of seed ");
+        say_number(SEED.load(Relaxed));
+        say(b" (once more: again SEED flow|correction|sheet INDEX)");
+    }
+    say(b"\n");
     // SAFETY: ends the program.
     unsafe { _exit(1) }
 }

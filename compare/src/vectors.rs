@@ -33,7 +33,7 @@ pub fn write(seed: u64, count: u64, flows: &str, stdout: &str) -> io::Result<()>
             950..=994 => Size::Small,
             _ => Size::Full,
         };
-        let flow = damage::flow_of(&mut rng, &pool, size);
+        let flow = damage::flow_of(&mut rng, &pool, size).flow;
         match flow.len() {
             length if length > MOST_BYTES + RECORD => continue,
             length if length > MOST_BYTES && too_long == MOST_TOO_LONG => continue,

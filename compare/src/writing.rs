@@ -4,6 +4,7 @@
 use crate::calls::NO_ROOM;
 use crate::columns::{COUNT, RECORD, TAIL_DELEGHE};
 use crate::ffi;
+use crate::heads::{self, Dates};
 use crate::lent::{Lent, Place};
 use crate::rival::{self, WRITE_NEEDS};
 use crate::rng::Rng;
@@ -146,6 +147,9 @@ fn unlike(case: &Case, before: &[u8], left: &Left) -> Option<String> {
             return Some(why);
         }
     }
+    if let Some(why) = heads::unlike(&case.sheet, left.code, &left.answer) {
+        return Some(why);
+    }
     if way(&case.sheet, case.room, left.code).is_none() {
         return Some("both give a number that answers no sheet".to_string());
     }
@@ -207,12 +211,14 @@ pub struct Tally {
     known: u64,
     /// Where 7 was told.
     pub sevens: Sevens,
+    pub dates: Dates,
 }
 
 impl Tally {
     fn count(&mut self, case: &Case, way: usize, left: &Left) {
         self.counts[way] += 1;
         self.known += u64::from(case.known.is_some());
+        self.dates.count(&case.sheet, left.code);
         if left.code == 7 {
             sevens::in_sheet(&case.sheet).iter().for_each(|character| self.sevens.count(character));
         }
@@ -250,6 +256,7 @@ impl Tally {
         println!("sheets written into a longer room: {}", self.past);
         println!("answers that the generator knew: {}", self.known);
         self.sevens.print("write");
+        self.dates.print("write");
     }
 }
 

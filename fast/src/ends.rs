@@ -17,7 +17,25 @@ pub fn judge_head(record: &Record) -> Result<(), Fault> {
     let breaks_rule = |broken, &byte: &u8| broken | (byte == b'/') | (byte == b':');
     ensure(!name(record).iter().fold(false, breaks_rule), 16, NAME)?;
     let two = |at: usize| 10 * (date[at] - b'0') + (date[at + 1] - b'0');
-    ensure((1..=31).contains(&two(0)) && (1..=12).contains(&two(2)), 17, DATE)
+    ensure(exists(two(0), two(2), two(4)), 17, DATE)
+}
+
+/// "A date is valid only if the day exists in that month", as document 02
+/// amends the rule. Most days exist in every month.
+#[inline(always)]
+fn exists(day: u8, month: u8, year: u8) -> bool {
+    let last = if day <= 28 { 28 } else { last_day(month, year) };
+    (1..=12).contains(&month) && (1..=last).contains(&day)
+}
+
+/// Months of 31 days and of 30 take turns, and begin anew with August; "with a
+/// leap year each fourth", of which 00 is the first.
+#[inline(always)]
+fn last_day(month: u8, year: u8) -> u8 {
+    match month {
+        2 => 28 + u8::from(year % 4 == 0),
+        _ => 30 + (month + month / 8) % 2,
+    }
 }
 
 #[inline(always)]

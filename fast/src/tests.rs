@@ -285,8 +285,17 @@ fn totals_sign_and_balance() {
 
 #[test]
 fn head_and_tail() {
-    for date in ["000199", "320199", "010099", "011399"] {
-        assert_refused(&with(example(), 1, 14, date), 17, 1, 14);
+    for date in ["000199", "320199", "010099", "011399", "310215", "290215", "310416"] {
+        let flow = with(example(), 1, 14, date);
+        assert_refused(&flow, 17, 1, 14);
+        // 7, then 16, then 17.
+        assert_refused(&with(flow.clone(), 1, 39, ":"), 16, 1, 20);
+        for position in 14..20 {
+            assert_refused(&with(with(flow.clone(), 1, 39, ":"), 1, position, " "), 7, 1, position);
+            assert_refused(&with(flow.clone(), 1, position, "x"), 7, 1, position);
+        }
+        // The tail's own is not read.
+        assert_eq!(judge(&with(example(), 8, 14, date)), judge(&example()));
     }
     assert_refused(&with(example(), 1, 14, "31129a"), 7, 1, 19);
     for position in 20..40 {
@@ -298,6 +307,45 @@ fn head_and_tail() {
     assert_refused(&with(example(), 8, 83, "0000007"), 19, 8, 83);
     assert_refused(&with(example(), 8, 53, "000000000007501"), 20, 8, 53);
     assert_refused(&with(with(example(), 8, 60, " "), 8, 83, " "), 7, 8, 60);
+}
+
+/// Which six digits are a date: walked from 1 January 2000 to 31 December 2099,
+/// each day from the one before.
+fn century() -> Vec<bool> {
+    const ENDS: &str = "3101 2802 3103 3004 3105 3006 3107 3108 3009 3110 3011 3112";
+    let mut is_date = vec![false; 1_000_000];
+    let (mut day, mut month, mut year) = (1, 1, 0);
+    let mut years_to_leap = 0;
+    while year < 100 {
+        is_date[day * 10_000 + month * 100 + year] = true;
+        let leap = years_to_leap == 0;
+        let today = format!("{day:02}{month:02}");
+        let ends = today == "2902" || (ENDS.contains(&today) && !(leap && today == "2802"));
+        day += 1;
+        if ends {
+            day = 1;
+            month += 1;
+        }
+        if month == 13 {
+            month = 1;
+            year += 1;
+            years_to_leap = if leap { 3 } else { years_to_leap - 1 };
+        }
+    }
+    is_date
+}
+
+#[test]
+fn every_six_digits_as_the_date() {
+    let is_date = century();
+    assert_eq!(is_date.iter().filter(|&&is_date| is_date).count(), 36_525);
+    let mut flow = example();
+    let accepted = judge(&flow);
+    for (date, is_date) in is_date.into_iter().enumerate() {
+        put(&mut flow, 14, &format!("{date:06}"));
+        let refused = Err(Refusal { number: 17, record: 1, position: 14 });
+        assert_eq!(judge(&flow), if is_date { accepted } else { refused }, "{date:06}");
+    }
 }
 
 // ------------------------------------------------------- words and columns

@@ -3,6 +3,7 @@
 //! "Records are judged in order, and within a record the checks in the order
 //! of their numbers; the first blocking fault ends the judgement."
 
+use super::dates;
 use super::digits::{fifteen, seven, six};
 use super::layout::*;
 use std::ops::Range;
@@ -105,10 +106,9 @@ impl Judgement {
         let breaks_rule = self.name.iter().any(|byte| matches!(byte, b'/' | b':'));
         ensure(!breaks_rule, 16, NAME)?;
 
-        // "It is valid when the day is 01 to 31 and the month 01 to 12."
-        let (day, month) = (date / 10_000, date / 100 % 100);
-        let valid = (1..=31).contains(&day) && (1..=12).contains(&month);
-        ensure(valid, 17, DATE)
+        // Document 02: "A date is valid only if the day exists in that month".
+        // "This amends 01's date rule; its number and place stay."
+        ensure(dates::valid(date), 17, DATE)
     }
 
     /// "The first delega is 1, each next one is one more"

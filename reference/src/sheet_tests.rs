@@ -591,14 +591,29 @@ fn names_and_dates() {
         // The tail's never.
         assert!(asked(&example().with(7, position, text).bytes(), AMPLE).is_ok());
     }
-    for date in ["000199", "320199", "010099", "011399"] {
+    for date in DATES {
+        let flow = one(5, &[(10000, 0), (0, 2500)]);
+        assert_written(&example().with(1, 14, date), &with(flow, 1, 14, date));
+    }
+    for date in NO_DATES {
         assert_unwritten(&example().with(1, 14, date), 17, 1, 14);
+        // EF's own is not read.
+        assert!(asked(&example().with(7, 14, date).bytes(), AMPLE).is_ok());
     }
     assert_unwritten(&example().with(1, 14, "0099 0"), 7, 1, 18);
+    assert_unwritten(&example().with(1, 14, "31021 "), 7, 1, 19);
     // 7, then 16, then 17.
-    let both = example().with(1, 14, "009900").with(1, 39, ":");
-    assert_unwritten(&both, 16, 1, 20);
-    assert_unwritten(&both.with(1, 14, "x"), 7, 1, 14);
+    for date in ["009900", "310215", "290215", "310416"] {
+        let both = example().with(1, 14, date).with(1, 39, ":");
+        assert_unwritten(&both, 16, 1, 20);
+        assert_unwritten(&both.clone().with(1, 14, "x"), 7, 1, 14);
+        assert_unwritten(&both.with(1, 19, "x"), 7, 1, 19);
+    }
+    // 17 before the faults of later records and 23, after 24 and 25.
+    let wrong = example().with(1, 14, "310215").with(2, 1, "\n");
+    assert_unwritten(&wrong, 17, 1, 14);
+    assert_eq!(asked(&wrong.bytes(), 959), Err(refused(25, 0, 0)));
+    assert_eq!(asked(&wrong.bytes()[..852], 0), Err(refused(24, 0, 0)));
 }
 
 #[test]
@@ -632,6 +647,7 @@ fn sums_that_do_not_fit() {
         let flow = whole(deleghe).len() / 120;
         assert_unwritten(&sound.clone().with(records, 120, "\n"), 3, flow, 120);
         assert_unwritten(&sound.clone().with(1, 14, "32"), 17, 1, 14);
+        assert_unwritten(&sound.clone().with(1, 14, "310499"), 17, 1, 14);
     }
     assert_unwritten(&sheet(&[&[(5, too)], &[(5, &[(0, 1)])]]), 14, 12, 2);
     assert_unwritten(&sheet(&[&[(5, too)], &[]]), 4, 10, 2);

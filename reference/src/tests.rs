@@ -154,6 +154,20 @@ pub fn refused(number: u8, record: usize, position: usize) -> Refusal {
     }
 }
 
+/// Dates that are valid, at the limits of the rule.
+pub const DATES: [&str; 22] = [
+    "290216", "290200", "290204", "290296", "310116", "280215", "280216", "280201", "300416",
+    "300616", "310716", "310816", "300916", "311016", "301116", "311216", "310316", "310516",
+    "010100", "010116", "010300", "311299",
+];
+
+/// Six digits that are no valid date, each in one way or more.
+pub const NO_DATES: [&str; 22] = [
+    "290215", "290201", "290202", "290298", "290299", "300216", "300200", "310215", "310299",
+    "310416", "310616", "310916", "311116", "320116", "321299", "000116", "010016", "011316",
+    "312016", "990116", "000000", "999999",
+];
+
 #[track_caller]
 fn assert_refused(flow: &[u8], number: u8, record: usize, position: usize) {
     assert_eq!(judge(flow), Err(refused(number, record, position)));
@@ -788,10 +802,20 @@ fn names() {
     }
     let blank = " ".repeat(20);
     assert!(judge(&with(with(example(), 1, 20, &blank), 8, 20, &blank)).is_ok());
-    // 7, then 16, then 17; in the tail 16 before 18.
-    let flow = with(with(example(), 1, 14, "009900"), 1, 20, "/");
-    assert_refused(&flow, 16, 1, 20);
-    assert_refused(&with(flow, 1, 19, " "), 7, 1, 19);
+    // 7, then 16, then 17, whatever is wrong with the date; in the tail 16
+    // before 18.
+    for date in ["009900", "310215", "290215", "310416"] {
+        let flow = with(example(), 1, 14, date);
+        assert_refused(&flow, 17, 1, 14);
+        for position in [20, 39] {
+            let named = with(flow.clone(), 1, position, "/");
+            assert_refused(&named, 16, 1, 20);
+            for place in 14..20 {
+                assert_refused(&with(flow.clone(), 1, place, " "), 7, 1, place);
+                assert_refused(&with(named.clone(), 1, place, " "), 7, 1, place);
+            }
+        }
+    }
     assert_refused(
         &with(with(example(), 8, 20, "/"), 8, 46, "9999999"),
         16,
@@ -802,14 +826,47 @@ fn names() {
 
 #[test]
 fn dates() {
-    for date in ["010100", "310299", "311299", "010112"] {
-        assert!(judge(&with(example(), 1, 14, date)).is_ok());
+    for date in DATES {
+        assert_eq!(judge(&with(example(), 1, 14, date)), judge(&example()));
     }
-    for date in ["000199", "320199", "010099", "011399", "000000", "999999"] {
+    for date in NO_DATES {
         assert_refused(&with(example(), 1, 14, date), 17, 1, 14);
     }
     assert_refused(&with(example(), 1, 14, " 10100"), 7, 1, 14);
     assert_refused(&with(example(), 1, 14, "32 1 0"), 7, 1, 16);
+    assert_refused(&with(example(), 1, 14, "31021 "), 7, 1, 19);
+    // 17 comes before every fault of a later record, and after 3 and 4.
+    let flow = with(example(), 1, 14, "310215");
+    assert_refused(&with(flow.clone(), 2, 1, "\n"), 17, 1, 14);
+    assert_refused(&with(flow.clone(), 1, 120, "\n"), 3, 1, 120);
+    assert_refused(&with(flow, 1, 2, "EF"), 4, 1, 2);
+}
+
+#[test]
+fn the_tails_own_date_is_not_read() {
+    for date in ["310215", "000000", "999999", "/:/:/:", "      "] {
+        assert_eq!(judge(&with(example(), 8, 14, date)), judge(&example()));
+    }
+}
+
+#[test]
+fn every_call_judges_the_date() {
+    for date in DATES {
+        let mut flow = with(example(), 1, 14, date);
+        assert!(delega(&flow, 1).is_ok());
+        assert_eq!(find(&flow, 1, 5, 1), Ok(4));
+        assert_eq!(correct(&mut flow, 1, 5, 1, 9000, 0), Ok(()));
+        assert_eq!(&flow[13..19], date.as_bytes());
+    }
+    for date in NO_DATES {
+        let before = with(example(), 1, 14, date);
+        let mut flow = before.clone();
+        let refusal = refused(17, 1, 14);
+        assert_eq!(delega(&flow, 1), Err(refusal));
+        assert_eq!(find(&flow, 1, 5, 1), Err(refusal));
+        assert_eq!(correct(&mut flow, 1, 5, 1, 9000, 0), Err(refusal));
+        assert_eq!(flow, before);
+    }
 }
 
 #[test]
