@@ -9,6 +9,7 @@ use borrow.Author.Tests.{ltb-false, eqb-true, eqb-false, le-ltb, eq-eqb, ne-eqb}
 use lib.Dec.{eqb, ltb}
 use lib.ListN.{length}
 use Rattle.text.specs.Characters.{firstBad}
+use Rattle.layout.specs.declared.RecordType.{RecordType}
 use Rattle.layout.specs.declared.Kind.{Kind}
 use Rattle.layout.specs.declared.Kind.the-variants.{Head, Taxpayer, Domicile, Line, Balance, Payment, Receipt, Addressee, Tail, Unknown}
 use Rattle.layout.specs.Kinds.{same, typeOf, typeIn, kindIn}
@@ -38,18 +39,22 @@ pub record Right (name : List ℕ) (st : State) (r : List ℕ) : Type 0 where
   pub own : ownFault name st (kindIn r) r ≡ Pass
   pub stored : wrong (storedOf st (kindIn r)) r ≡ Pass
 
-standing-pass : (a b : Bool) (o : Outcome) → cond a o (cond b (Fault 4 11) (Fault 4 2)) ≡ Pass → a ≡ true
-standing-pass true b o e = refl
-standing-pass false true o e = cc
-standing-pass false false o e = cc
+pub stands-of : (p : Stage) (t : RecordType) (k : Kind) → standing p t k ≡ Pass → stands p k ≡ true
+unfolding standing
+stands-of p t k e = go (stands p k) (typeStands p t) _ e
+  where
+    go : (a b : Bool) (o : Outcome) → cond a o (cond b (Fault 4 11) (Fault 4 2)) ≡ Pass → a ≡ true
+    go true b o e = refl
+    go false true o e = cc
+    go false false o e = cc
 
 pub right-of : (name : List ℕ) (st : State) (r : List ℕ) → fault name st r ≡ Pass → Right name st r
-unfolding fault standing
+unfolding fault
 right-of name st r e =
     let a = five-pass (charFault (firstBad r)) (standing (st .stage) (typeIn r) (kindIn r)) (badFields (fieldsOf (kindIn r)) r) (numberFault (st .deleghe) (kindIn r) (valueOf r delegaNumber)) _ e in
     let f = first-pass (ownFault name st (kindIn r) r) _ (a .4) in
     record {
-      ordered = standing-pass (stands (st .stage) (kindIn r)) (typeStands (st .stage) (typeIn r)) _ (a .1);
+      ordered = stands-of (st .stage) (typeIn r) (kindIn r) (a .1);
       numbered = a .3;
       own = f .0;
       stored = f .1;

@@ -79,9 +79,32 @@ pub data Only (n : ℕ) : Outcome → Type 0 where
   passed : Only n Pass
   failed : {p : ℕ} → Only n (Fault n p)
 
-only-cond : {n : ℕ} {x y : Outcome} (b : Bool) → Only n x → Only n y → Only n (cond b x y)
+pub only-cond : {n : ℕ} {x y : Outcome} (b : Bool) → Only n x → Only n y → Only n (cond b x y)
 only-cond true p q = p
 only-cond false p q = q
+
+-- a check that never has number n; where the first of two faults has it, it is the other's
+abbrev pub Never : ℕ → Outcome → Type 0
+Never n o = (q : ℕ) → o ≡ Fault n q → ⊥
+
+pub never : {m n : ℕ} {o : Outcome} → Only m o → (m ≡ n → ⊥) → Never n o
+never passed d q e = let z : _≡_ {A = ℕ} 0 1 = cc in omega arith
+never failed d q e = d cc
+
+pub other-fault : (o : Outcome) {x : Outcome} {n q : ℕ} → Never n o → first o x ≡ Fault n q → (o ≡ Pass) × (x ≡ Fault n q)
+other-fault Pass n e = (refl, e)
+other-fault (Fault m u) {q = q} n e = absurd (n q e)
+
+-- 4 and 6 are all that the order has
+pub order-number : (p : Stage) (t : RecordType) (k : Kind) {n q : ℕ} → standing p t k ≡ Fault n q → n ≤ 6
+unfolding standing
+order-number p t k {n} {q} e = go (stands p k) (full p k) (typeStands p t) e
+  where
+    go : (a b c : Bool) → cond a (cond b (Fault 6 11) Pass) (cond c (Fault 4 11) (Fault 4 2)) ≡ Fault n q → n ≤ 6
+    go true true c e = let z : _≡_ {A = ℕ} 6 n = cc in omega arith
+    go true false c e = let z : _≡_ {A = ℕ} 0 1 = cc in absurd (omega arith)
+    go false b true e = let z : _≡_ {A = ℕ} 4 n = cc in omega arith
+    go false b false e = let z : _≡_ {A = ℕ} 4 n = cc in omega arith
 
 -- checks whose numbers, none of which is 5 or above 20, rise from lo on
 abbrev Rising : ℕ → List Outcome → Type 0
@@ -106,7 +129,7 @@ carried-only : (e n : ℕ) → Only 8 (carried e n)
 unfolding carried
 carried-only e n = only-cond (eqb n e) passed failed
 
-number-only : (d : ℕ) (k : Kind) (n : ℕ) → Only 8 (numberFault d k n)
+pub number-only : (d : ℕ) (k : Kind) (n : ℕ) → Only 8 (numberFault d k n)
 unfolding numberFault
 number-only d Head n = passed
 number-only d Taxpayer n = carried-only _ n
@@ -119,12 +142,12 @@ number-only d Addressee n = carried-only _ n
 number-only d Tail n = passed
 number-only d Unknown n = passed
 
-line-only : (s d c : ℕ) → Only 9 (lineFault s d c)
+pub line-only : (s d c : ℕ) → Only 9 (lineFault s d c)
 unfolding lineFault
 line-only s d c = only-cond (lineRight s d c) passed (only-cond (eqb d 0) (only-cond (eqb c 0) failed failed) failed)
 
 -- the stored fields of a record stand in the order of their refusals
-abbrev refusalAt : Stored → ℕ
+abbrev pub refusalAt : Stored → ℕ
 refusalAt (Value n f v) = n
 refusalAt (Mark n c b) = n
 

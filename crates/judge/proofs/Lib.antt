@@ -9,3 +9,4 @@ pub mod ChecksInOrder
 pub mod FirstFault
 pub mod VeryCharacter
 pub mod OneAnswer
+pub mod DateExists

@@ -1,7 +1,6 @@
 -- Refusal 7 names the very character: of the record that it tells, the first in a numeric field that is no digit.
 use Prim.Native.Nat.{ℕ, suc, _+_, _-_, _/_}
-use mathlib.Core.Path.{_≡_, refl, ap, _∙_}
-use mathlib.Core.Bool.{Bool, true, false, cond}
+use mathlib.Core.Path.{_≡_, ap, _∙_}
 use mathlib.Core.List.{List, [], _∷_}
 use mathlib.Core.Logic.{_↔_}
 use native.Mathlib.Omega.{arith}
@@ -20,7 +19,7 @@ use Rattle.amounts.specs.declared.Outcome.{Outcome}
 use Rattle.amounts.specs.declared.Outcome.the-variants.{Pass, Fault}
 use Rattle.amounts.specs.Outcomes.{first}
 use Rattle.order.specs.declared.Stage.{Stage}
-use Rattle.order.specs.Order.{stands, full, typeStands, standing}
+use Rattle.order.specs.Order.{standing}
 use Rattle.rules.specs.declared.State.{State}
 use Rattle.rules.specs.State.{startState}
 use Rattle.rules.specs.Checks.{charFault, badFields, fault}
@@ -31,35 +30,24 @@ use Rattle.judge.specs.Flow.{recordsOf, headNameOf, judged}
 use Rattle.judge.specs.Part.{recordAt}
 use Rattle.judge.specs.Plain.{FirstFault, RefusedFor, LongFlow, NoBytes, RaggedFlow, FaultAt, NoTail}
 use Rattle.judge.proofs.Records.{length-chunks, record-whole, record-number}
-use Rattle.judge.proofs.ChecksInOrder.{char-only, allowed-of, only-number, rest-number}
+use Rattle.judge.proofs.ChecksInOrder.{char-only, allowed-of, Never, never, other-fault, order-number, rest-number}
 use Rattle.judge.proofs.FirstFault.{refused-exactly}
 
 -- an outcome that is no 7
 abbrev pub NoSeven : Outcome → Type 0
-NoSeven o = (q : ℕ) → o ≡ Fault 7 q → ⊥
+NoSeven o = Never 7 o
 
--- where the first of two faults is 7 and one of them cannot be, it is the other's
-pub other-seven : (o : Outcome) {x : Outcome} {q : ℕ} → NoSeven o → first o x ≡ Fault 7 q → (o ≡ Pass) × (x ≡ Fault 7 q)
-other-seven Pass n e = (refl, e)
-other-seven (Fault m u) {q = q} n e = absurd (n q e)
-
+-- where the first of two faults is 7 and the second cannot be, it is the first
 this-seven : (o : Outcome) {x : Outcome} {q : ℕ} → NoSeven x → first o x ≡ Fault 7 q → o ≡ Fault 7 q
 this-seven Pass {q = q} n e = absurd (n q e)
 this-seven (Fault m u) n e = e
 
 -- the characters have 3, the order has 4 and 6
 pub no-seven-characters : (c : Characters) → NoSeven (charFault c)
-no-seven-characters c q e = let h = only-number (rw e at (char-only c)) in omega arith
+no-seven-characters c = never (char-only c) (λ z. omega arith)
 
 no-seven-order : (p : Stage) (t : RecordType) (k : Kind) → NoSeven (standing p t k)
-unfolding standing
-no-seven-order p t k q = go (stands p k) (full p k) (typeStands p t)
-  where
-    go : (a b c : Bool) → cond a (cond b (Fault 6 11) Pass) (cond c (Fault 4 11) (Fault 4 2)) ≡ Fault 7 q → ⊥
-    go true true c e = let z : _≡_ {A = ℕ} 6 7 = cc in omega arith
-    go true false c e = let z : _≡_ {A = ℕ} 0 1 = cc in omega arith
-    go false b true e = let z : _≡_ {A = ℕ} 4 7 = cc in omega arith
-    go false b false e = let z : _≡_ {A = ℕ} 4 7 = cc in omega arith
+no-seven-order p t k q e = let h = order-number p t k e in omega arith
 
 -- the checks of a record whose fields fl are looked at, where what is behind them has not the number 7
 module _ (p : Stage) (r : List ℕ) (l : length r ≡ 120) (fl : List Field) (o : InOrder 0 fl) (x : Outcome) (n : NoSeven x) where
@@ -68,8 +56,8 @@ module _ (p : Stage) (r : List ℕ) (l : length r ≡ 120) (fl : List Field) (o 
 
   of-fields : {q : ℕ} → checked ≡ Fault 7 q → (firstBad r ≡ Allowed) × (standing p (typeIn r) (kindIn r) ≡ Pass) × (badFields fl r ≡ Fault 7 q)
   of-fields e =
-      let a = other-seven (charFault (firstBad r)) (no-seven-characters (firstBad r)) e in
-      let b = other-seven (standing p (typeIn r) (kindIn r)) (no-seven-order p (typeIn r) (kindIn r)) (a .1) in
+      let a = other-fault (charFault (firstBad r)) (no-seven-characters (firstBad r)) e in
+      let b = other-fault (standing p (typeIn r) (kindIn r)) (no-seven-order p (typeIn r) (kindIn r)) (a .1) in
       (allowed-of (firstBad r) (a .0), b .0, this-seven (badFields fl r) n (b .1))
 
   -- their 7 is behind the index of the first non-digit of these fields

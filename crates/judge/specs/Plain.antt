@@ -1,10 +1,11 @@
 -- For theorems. What a flow's judgement is measured by: plain counts and sums over its records, the records that pass, and the checks of a record one by one.
 use Prim.Native.Nat.{ℕ, _+_, _<_, _≤_, _%_}
 use mathlib.Core.Path.{_≡_}
-use mathlib.Core.Bool.{cond}
+use mathlib.Core.Bool.{true, false, cond}
 use mathlib.Core.List.{List, [], _∷_, _++_, map}
 use lib.Dec.{eqb}
 use lib.ListN.{length}
+use Rattle.text.specs.declared.Characters.the-variants.{Allowed}
 use Rattle.text.specs.Characters.{firstBad}
 use Rattle.text.specs.Numbers.{numberOf}
 use Rattle.layout.specs.declared.Field.{Field}
@@ -23,11 +24,14 @@ use Rattle.amounts.specs.declared.Outcome.the-variants.{Pass, Fault}
 use Rattle.rules.specs.State.{startState}
 use Rattle.order.specs.Order.{stands, typeStands, full}
 use Rattle.amounts.specs.Amounts.{lineFault}
+use Rattle.amounts.specs.Dates.{dateRight}
+use Rattle.amounts.specs.Names.{nameRight}
 use Rattle.rules.specs.Stored.{Stored, storedOf, right, faultOf}
-use Rattle.rules.specs.Checks.{charFault, orBad, numberFault, ownChecks, fault}
+use Rattle.rules.specs.Checks.{charFault, orBad, badFields, numberFault, ownChecks, fault}
 use Rattle.rules.specs.Step.{next}
 use Rattle.judge.specs.Refusal.{Refusal, refusal}
 use Rattle.judge.specs.Flow.{recordsOf, headNameOf}
+use Rattle.judge.specs.Part.{recordAt}
 
 -- a number of each record, added up over the records
 unfoldable pub sumOver : (List ℕ → ℕ) → List (List ℕ) → ℕ
@@ -124,6 +128,15 @@ pub data RefusedFor (s : List ℕ) (x : Refusal) : Type 0 where
   RaggedFlow : length s ≤ 65520 → (length s % 120 ≡ 0 → ⊥) → x ≡ refusal 2 0 0 → RefusedFor s x
   FaultAt : Whole s → FirstFault (headNameOf s) startState (recordsOf s) (x .number) (x .«record») (x .position) → RefusedFor s x
   NoTail : Whole s → Unfinished s → x ≡ refusal 5 (length (recordsOf s) + 1) 0 → RefusedFor s x
+
+-- the head of a flow breaks no check before 17, which are 3, 4, 7 and 16, and its date is none
+pub record NoSuchDay (s : List ℕ) : Type 0 where
+  pub whole : Whole s
+  pub characters : firstBad (recordAt s 1) ≡ Allowed
+  pub head : kindIn (recordAt s 1) ≡ Head
+  pub digits : badFields (fieldsOf Head) (recordAt s 1) ≡ Pass
+  pub name : nameRight (bytesOf (recordAt s 1) supportName) ≡ true
+  pub day : dateRight (valueOf (recordAt s 1) creationDate) ≡ false
 
 -- 4: a record of a type and a kind may stand at a stage
 abbrev pub orderCheck : Stage → RecordType → Kind → Outcome

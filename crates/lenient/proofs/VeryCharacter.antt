@@ -20,8 +20,8 @@ use Rattle.rules.specs.declared.State.{State}
 use Rattle.rules.specs.Stored.{storedOf, wrong}
 use Rattle.rules.specs.Checks.{charFault, numberFault, ownFault}
 use Rattle.rules.specs.NonDigits.{FirstNonDigit}
-use Rattle.judge.proofs.ChecksInOrder.{rest-number}
-use Rattle.judge.proofs.VeryCharacter.{NoSeven, other-seven, no-seven-characters, seven-index, seven-when}
+use Rattle.judge.proofs.ChecksInOrder.{other-fault, rest-number}
+use Rattle.judge.proofs.VeryCharacter.{NoSeven, no-seven-characters, seven-index, seven-when}
 use Rattle.rebalance.specs.Rebalance.{keptFields, keptFault}
 use Rattle.lenient.specs.Lenient.{misfitFault, lenientFault}
 use Rattle.lenient.proofs.KeptFields.{kept-in-order}
@@ -66,7 +66,7 @@ module _ (name : List ℕ) (st : State) (r : List ℕ) (l : length r ≡ 120) wh
     where
       there : lenientFault name m p st r ≡ Fault 7 (i + 1) → (misfitFault m p (st .seen) ≡ Pass) × (firstBad r ≡ Allowed) × (standing (st .stage) (typeIn r) (kindIn r) ≡ Pass) × FirstNonDigit (keptFields (kindIn r)) r i
       there e =
-          let a = other-seven (charFault (firstBad r)) (no-seven-characters (firstBad r)) e in
-          let b = other-seven (misfitFault m p (st .seen)) (no-seven-misfit m p (st .seen)) (a .1) in
+          let a = other-fault (charFault (firstBad r)) (no-seven-characters (firstBad r)) e in
+          let b = other-fault (misfitFault m p (st .seen)) (no-seven-misfit m p (st .seen)) (a .1) in
           let k = kept-seven-exactly i .0 (b .1) in
           (b .0, k .0, k .1, k .2)

@@ -27,7 +27,8 @@ use Rattle.rules.proofs.NonDigits.{field-digits}
 use Rattle.judge.specs.Refusal.{Refusal, refusal}
 use Rattle.judge.specs.Plain.{Debit, Credit, columnOf}
 use Rattle.rebalance.specs.Rebalance.{keptFields, keptFault}
-use Rattle.judge.proofs.VeryCharacter.{NoSeven, no-seven-characters, other-seven}
+use Rattle.judge.proofs.ChecksInOrder.{other-fault}
+use Rattle.judge.proofs.VeryCharacter.{NoSeven, no-seven-characters}
 use Rattle.rebalance.proofs.Outside.{off-all}
 use Rattle.lenient.proofs.VeryCharacter.{kept-seven-at}
 use Rattle.sheet.specs.Slots.{typeText, subtypeText, slotFault}
@@ -60,7 +61,7 @@ seven-of-kept : (name : List ℕ) (st : State) (e : Entry) {p : ℕ} → entryFa
 unfolding entryFault
 seven-of-kept name st e f =
     let r = filled name e in
-    other-seven (slotFault (e .slot) r) (no-seven-slot (e .slot) r) (other-seven (charFault (firstBad r)) (no-seven-characters (firstBad r)) f .1)
+    other-fault (slotFault (e .slot) r) (no-seven-slot (e .slot) r) (other-fault (charFault (firstBad r)) (no-seven-characters (firstBad r)) f .1)
 
 -- Where a field holds digits only, the first non-digit is in the others.
 past-field : (f : Field) (fl : List Field) (r : List ℕ) {i : ℕ} → ((j : ℕ) → f .start ≤ j → j < f .end → digit (getD r j 0) ≡ true) → FirstNonDigit (f ∷ fl) r i → FirstNonDigit fl r i

@@ -1,4 +1,4 @@
-use Rattle.amounts.specs.Amounts.{signOf, apart, finalOf, creditRight, lineRight, lineFault}
+use Rattle.amounts.specs.Amounts.{creditRight}
 use borrow.Author.Needs.{needs}
 use Rattle.amounts.proofs.credit_right.Statement.{statement}
 use Rattle.amounts.proofs.credit_right.Tie as tie

@@ -1,5 +1,5 @@
 use native.Mathlib.Omega.{arith}
-use Rattle.amounts.specs.Amounts.{signOf, apart, finalOf, creditRight, lineRight, lineFault}
+use Rattle.amounts.specs.Amounts.{finalOf}
 use Rattle.amounts.proofs.final_of.Statement.{statement}
 use Rattle.amounts.proofs.final_of.Tie as tie
 

@@ -1,10 +1,10 @@
-use mathlib.Core.Path.{_≡_, refl, sym, ap, _∙_}
+use mathlib.Core.Path.{sym, _∙_}
 use mathlib.Core.Logic.{⊎-elim}
-use Rattle.amounts.proofs.Lines.{right-no-debit, right-debit, fault-no-debit, fault-debit}
+use Rattle.amounts.proofs.Lines.{fault-no-debit, fault-debit}
 use Rattle.layout.proofs.Table.{near-rule}
 use native.Mathlib.Omega.{arith}
-use Rattle.amounts.specs.Amounts.{signOf, apart, finalOf, creditRight, lineRight, lineFault}
-use borrow.Author.Tests.{eq-eqb, ne-eqb, lt-ltb, le-ltb, le-leb, lt-leb}
+use Rattle.amounts.specs.Amounts.{lineFault}
+use borrow.Author.Tests.{eq-eqb}
 use borrow.Author.Needs.{needs}
 use Rattle.amounts.proofs.line_fault.Statement.{statement}
 use Rattle.amounts.proofs.line_fault.Tie as tie

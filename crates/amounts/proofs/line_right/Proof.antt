@@ -1,8 +1,8 @@
 use mathlib.Core.Logic.{⊎-elim}
-use Rattle.amounts.proofs.Lines.{right-no-debit, right-debit, fault-no-debit, fault-debit}
-use mathlib.Core.Path.{_≡_, refl, sym, ap, _∙_}
-use Rattle.amounts.specs.Amounts.{signOf, apart, finalOf, creditRight, lineRight, lineFault}
-use borrow.Author.Tests.{eq-eqb, ne-eqb, lt-ltb, le-ltb, le-leb, lt-leb}
+use Rattle.amounts.proofs.Lines.{right-no-debit, right-debit}
+use mathlib.Core.Path.{sym, _∙_}
+use Rattle.amounts.specs.Amounts.{lineRight}
+use borrow.Author.Tests.{eq-eqb}
 use borrow.Author.Needs.{needs}
 use Rattle.amounts.proofs.line_right.Statement.{statement}
 use Rattle.amounts.proofs.line_right.Tie as tie
