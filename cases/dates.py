@@ -1,5 +1,5 @@
-"""Every date of six digits, and which of them Python's own calendar has. Adds no case to the list: the program of crates/date_cases judges one flow with
-each of them in turn, and prints a date with its answer where that is another than the one before."""
+"""Every number of six digits, and which of them are dates by Python's own calendar. Adds no case to the list: the program of crates/date_cases judges one
+flow with each of them for its date, and prints it with its answer where that is another than for the one before."""
 
 from datetime import date
 

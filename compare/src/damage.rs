@@ -1,5 +1,6 @@
 //! Damaged flows. A damage aims at a refusal; what the flow is then answered
-//! is for the library and the reference to say, since damages meet.
+//! is for the library and the reference to say, since damages meet. Where
+//! nothing but the date was damaged the generator knows it too.
 
 use crate::columns::{Kind::*, *};
 use crate::dates;

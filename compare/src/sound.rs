@@ -132,20 +132,17 @@ pub fn plan_with(rng: &mut Rng, size: Size, amounts: Amounts) -> Plan {
 }
 
 /// A plan of exactly this many records, 7 or more.
-#[allow(dead_code)]
 pub fn plan_of(rng: &mut Rng, records: usize, amounts: Amounts) -> Plan {
     let deleghe = filled(rng, records);
     finish(rng, deleghe, amounts)
 }
 
 /// Document 01's printed example, of eight records.
-#[allow(dead_code)]
 pub fn printed() -> Plan {
     one_by_one(vec![vec![SectionPlan { section: 2, lines: vec![(10_000, 0), (0, 2500)] }]])
 }
 
 /// A plan of these sections, one delega after another.
-#[allow(dead_code)]
 pub fn one_by_one(deleghe: Vec<Vec<SectionPlan>>) -> Plan {
     Plan {
         deleghe: deleghe.into_iter().map(|sections| DelegaPlan { sections, receipts: &[] }).collect(),

@@ -1,11 +1,11 @@
 //! Some thousand generated flows with the reference's answers, as the data and
 //! the expected output of a run program.
 
-use crate::columns::{MOST_BYTES, RECORD};
+use crate::columns::{MOST_BYTES, MOST_RECORDS, RECORD};
 use crate::damage;
 use crate::frames;
 use crate::rng::Rng;
-use crate::sound::{Pool, Size};
+use crate::sound::{self, Amounts, Pool, Size};
 use std::fs;
 use std::io::{self, Write};
 
@@ -16,6 +16,13 @@ const MOST_WRITTEN: usize = 3_000_000;
 const MOST_TOO_LONG: usize = 2;
 const LARGE: usize = 4000;
 const MOST_LARGE: usize = 3;
+
+/// A sound flow of as many records as there may be: the first of the flows, since
+/// none might be drawn that is long and sound.
+fn most_records(rng: &mut Rng, pool: &Pool) -> Vec<u8> {
+    let plan = sound::plan_of(rng, MOST_RECORDS, Amounts::Wide);
+    sound::write(rng, pool, &plan).bytes
+}
 
 /// Writes `count` flows to one file and the lines that the judging program
 /// prints for them to another; prints how often each answer comes up.
@@ -33,7 +40,10 @@ pub fn write(seed: u64, count: u64, flows: &str, stdout: &str) -> io::Result<()>
             950..=994 => Size::Small,
             _ => Size::Full,
         };
-        let flow = damage::flow_of(&mut rng, &pool, size).flow;
+        let flow = match written {
+            0 => most_records(&mut rng, &pool),
+            _ => damage::flow_of(&mut rng, &pool, size).flow,
+        };
         match flow.len() {
             length if length > MOST_BYTES + RECORD => continue,
             length if length > MOST_BYTES && too_long == MOST_TOO_LONG => continue,

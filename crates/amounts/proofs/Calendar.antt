@@ -6,6 +6,7 @@ use mathlib.Core.Bool.{Bool, true, false, cond}
 use mathlib.Core.List.{List, [], _∷_}
 use lib.Dec.{eqb}
 use lib.ListN.{getD}
+use Rattle.amounts.proofs.Examples.{every}
 use Rattle.amounts.specs.Dates.{leap, months, daysIn, within, dayExists, dateRight}
 
 -- six digits are a date, or they are none
@@ -13,34 +14,29 @@ pub data Fact : Type 0 where
   date : ℕ → Fact
   no-date : ℕ → Fact
 
--- "290216 passes, 290215 and 310416 don't"; the thirty-first of February; then for each month its last day and the day behind it
+-- of each month of 2015 and of 2016 the last day and the one behind it, "290216 passes, 290215 and 310416 don't" among them; the thirty-first of February; no day and no month; the leap day of 2000
 pub facts : List Fact
 facts =
-    date 290216 ∷ no-date 290215 ∷ no-date 310416
-    ∷ no-date 310215 ∷ no-date 0 ∷ date 290200 ∷ date 310116
-    ∷ date 310115 ∷ no-date 320115
-    ∷ date 280215 ∷ no-date 290215
-    ∷ date 310315 ∷ no-date 320315
-    ∷ date 300415 ∷ no-date 310415
-    ∷ date 310515 ∷ no-date 320515
-    ∷ date 300615 ∷ no-date 310615
-    ∷ date 310715 ∷ no-date 320715
-    ∷ date 310815 ∷ no-date 320815
-    ∷ date 300915 ∷ no-date 310915
-    ∷ date 311015 ∷ no-date 321015
-    ∷ date 301115 ∷ no-date 311115
-    ∷ date 311215 ∷ no-date 321215
+    date 310115 ∷ no-date 320115 ∷ date 310116 ∷ no-date 320116
+    ∷ date 280215 ∷ no-date 290215 ∷ date 290216 ∷ no-date 300216
+    ∷ date 310315 ∷ no-date 320315 ∷ date 310316 ∷ no-date 320316
+    ∷ date 300415 ∷ no-date 310415 ∷ date 300416 ∷ no-date 310416
+    ∷ date 310515 ∷ no-date 320515 ∷ date 310516 ∷ no-date 320516
+    ∷ date 300615 ∷ no-date 310615 ∷ date 300616 ∷ no-date 310616
+    ∷ date 310715 ∷ no-date 320715 ∷ date 310716 ∷ no-date 320716
+    ∷ date 310815 ∷ no-date 320815 ∷ date 310816 ∷ no-date 320816
+    ∷ date 300915 ∷ no-date 310915 ∷ date 300916 ∷ no-date 310916
+    ∷ date 311015 ∷ no-date 321015 ∷ date 311016 ∷ no-date 321016
+    ∷ date 301115 ∷ no-date 311115 ∷ date 301116 ∷ no-date 311116
+    ∷ date 311215 ∷ no-date 321215 ∷ date 311216 ∷ no-date 321216
+    ∷ no-date 310215 ∷ no-date 0 ∷ date 290200
     ∷ []
 
 abbrev holds : Fact → Bool
 holds (date v) = dateRight v
 holds (no-date v) = cond (dateRight v) false true
 
-abbrev all : List Fact → Bool
-all [] = true
-all (x ∷ xs) = cond (holds x) (all xs) false
-
-pub calendar-facts : all facts ≡ true
+pub calendar-facts : every holds facts ≡ true
 unfolding facts dateRight dayExists within daysIn months leap
 calendar-facts = refl
 
@@ -64,16 +60,19 @@ digits day month year = day * 10000 + month * 100 + year
 abbrev datesOf : ℕ → ℕ
 datesOf year = total (λ month. passing (λ day. dateRight (digits day month year)) 100) 100
 
--- the same over the days alone, for a leap year and for another
+-- the same over the days alone, of a leap year or another
+abbrev lengthOf : Bool → ℕ → ℕ
+lengthOf leapYear month = getD (0 ∷ months leapYear) month 0
+
 abbrev daysOf : Bool → ℕ
-daysOf b = total (λ month. passing (λ day. within 1 (getD (0 ∷ months b) month 0) day) 100) 100
+daysOf b = total (λ month. passing (λ day. within 1 (lengthOf b month) day) 100) 100
 
 days-of : (b : Bool) → daysOf b ≡ cond b 366 365
 unfolding months within
 days-of true = refl
 days-of false = refl
 
-parts : (day month year : ℕ) → month < 100 → year < 100 → dateRight (digits day month year) ≡ within 1 (getD (0 ∷ months (leap year)) month 0) day
+parts : (day month year : ℕ) → month < 100 → year < 100 → dateRight (digits day month year) ≡ within 1 (lengthOf (leap year) month) day
 unfolding dateRight dayExists daysIn
 parts day month year m y =
     let d : digits day month year / 10000 ≡ day = omega arith in

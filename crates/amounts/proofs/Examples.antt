@@ -53,10 +53,11 @@ facts =
     ∷ line 4 100 1 false
     ∷ []
 
-abbrev all : List Fact → Bool
-all [] = true
-all (x ∷ xs) = cond (holds x) (all xs) false
+-- every one of a list passes a test
+abbrev pub every : {A : Type 0} → (A → Bool) → List A → Bool
+every p [] = true
+every p (x ∷ xs) = cond (p x) (every p xs) false
 
-pub starred-facts : all facts ≡ true
+pub starred-facts : every holds facts ≡ true
 unfolding facts signOf apart lineRight creditRight readNumber numberFrom sectionAt
 starred-facts = refl

@@ -30,6 +30,7 @@ fn days_in(month: u64, year: u64) -> u64
     }
 }
 
+// Whether n is one of the numbers from lo to hi.
 fn is_within(lo: u64, hi: u64, n: u64) -> bool
     ensures { λ r. ⌜ r ≡ within lo hi n ⌝ }
 {
@@ -40,6 +41,8 @@ fn is_within(lo: u64, hi: u64, n: u64) -> bool
 pub fn date_right(v: u64) -> bool
     ensures { λ r. ⌜ r ≡ dateRight v ⌝ }
 {
-    let days = days_in(v / 100 % 100, v % 100);
-    is_within(1, days, v / 10000)
+    let day = v / 10000;
+    let month = v / 100 % 100;
+    let year = v % 100;
+    is_within(1, days_in(month, year), day)
 }

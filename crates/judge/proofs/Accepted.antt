@@ -1,7 +1,7 @@
 -- A flow is accepted exactly when it is sound: whole records, none with a fault, the last of them EF.
 use Prim.Native.Nat.{ℕ, _+_, _%_}
 use mathlib.Core.Path.{_≡_, refl, sym, ap, _∙_}
-use mathlib.Core.Bool.{Bool, true, false, cond}
+use mathlib.Core.Bool.{Bool, true, false, cond, false≢true}
 use mathlib.Core.List.{List, [], _∷_}
 use mathlib.Core.Logic.{_↔_}
 use native.Mathlib.Omega.{arith}
@@ -19,9 +19,9 @@ use Rattle.amounts.specs.declared.Outcome.{Outcome}
 use Rattle.amounts.specs.declared.Outcome.the-variants.{Pass, Fault}
 use Rattle.rules.specs.declared.State.{State}
 use Rattle.rules.specs.State.{startState}
-use Rattle.order.specs.Stages.{afterTail}
+use Rattle.order.specs.Stages.{atStart, afterTail}
 use Rattle.amounts.specs.Outcomes.{first}
-use Rattle.order.specs.Order.{stands, typeStands, standing}
+use Rattle.order.specs.Order.{among, stands, typeStands, standing}
 use Rattle.rules.specs.Stored.{storedOf, wrong}
 use Rattle.rules.specs.Checks.{charFault, badFields, carried, numberFault, ownFault, fault}
 use Rattle.order.specs.Order.{nextStage}
@@ -59,6 +59,20 @@ right-of name st r e =
       own = f .0;
       stored = f .1;
     }
+
+-- at the start only the head may stand
+pub head-stands : (p : Stage) (k : Kind) → p .phase ≡ atStart → stands p k ≡ true → k ≡ Head
+unfolding stands among
+head-stands p Head z e = refl
+head-stands p Taxpayer z e = absurd (false≢true (rw z at e))
+head-stands p Domicile z e = absurd (false≢true (rw z at e))
+head-stands p (Line s) z e = absurd (false≢true (rw z at e))
+head-stands p (Balance s) z e = absurd (false≢true (rw z at e))
+head-stands p Payment z e = absurd (false≢true (rw z at e))
+head-stands p Receipt z e = absurd (false≢true (rw z at e))
+head-stands p Addressee z e = absurd (false≢true (rw z at e))
+head-stands p Tail z e = absurd (false≢true (rw z at e))
+head-stands p Unknown z e = absurd (false≢true e)
 
 -- check 8 passes only where the number is the one that is expected
 pub carried-number : (d v : ℕ) → carried d v ≡ Pass → v ≡ d

@@ -120,10 +120,10 @@ pub allowed-of : (c : Characters) → charFault c ≡ Pass → c ≡ Allowed
 allowed-of Allowed e = refl
 allowed-of (BadAt i) e = cc
 
-field-only : (d : Digits) (f : Field) → Only 7 (orBad d f Pass)
-field-only (Number n) f = passed
-field-only (NonDigit i) f = failed
-field-only TooLong f = failed
+pub field-only : (d : Digits) (f : Field) {o : Outcome} → Only 7 o → Only 7 (orBad d f o)
+field-only (Number n) f h = h
+field-only (NonDigit i) f h = failed
+field-only TooLong f h = failed
 
 carried-only : (e n : ℕ) → Only 8 (carried e n)
 unfolding carried
@@ -197,7 +197,7 @@ rest-rising name st Unknown r = tt
 
 fields-rising : (fs : List Field) (r : List ℕ) (os : List Outcome) → ((lo : ℕ) → lo ≤ 7 → Rising lo os) → (lo : ℕ) → lo ≤ 7 → Rising lo (map (fieldCheck r) fs ++ os)
 fields-rising [] r os g lo h = g lo h
-fields-rising (f ∷ fs) r os g lo h = (7, omega arith, field-only (numberOf (bytesOf r f)) f, fields-rising fs r os g 7 (omega arith))
+fields-rising (f ∷ fs) r os g lo h = (7, omega arith, field-only (numberOf (bytesOf r f)) f passed, fields-rising fs r os g 7 (omega arith))
 
 checks-rising : (name : List ℕ) (st : State) (r : List ℕ) → Rising 3 (checksOf name st r)
 unfolding checksOf

@@ -9,8 +9,6 @@ use borrow.Author.Tests.{eqb-true}
 use lib.Dec.{ltb}
 use lib.ListN.{length, getD, drop}
 use Rattle.text.specs.declared.Characters.the-variants.{Allowed}
-use Rattle.text.specs.declared.Digits.{Digits}
-use Rattle.text.specs.declared.Digits.the-variants.{Number, NonDigit, TooLong}
 use Rattle.text.specs.Characters.{firstBad}
 use Rattle.text.specs.Numbers.{numberOf}
 use Rattle.layout.specs.declared.Field.{Field}
@@ -19,18 +17,17 @@ use Rattle.layout.specs.declared.Kind.the-variants.{Head, Taxpayer, Domicile, L
 use Rattle.layout.specs.Sections.{sectionAt}
 use Rattle.layout.specs.Kinds.{typeIn, kindIn}
 use Rattle.layout.specs.Fields.{creationDate, delegaNumber, supportName, fieldsOf, bytesOf, valueOf}
-use Rattle.amounts.specs.declared.Outcome.{Outcome}
 use Rattle.amounts.specs.declared.Outcome.the-variants.{Pass, Fault}
 use Rattle.amounts.specs.Outcomes.{first}
 use Rattle.amounts.specs.Dates.{dateRight}
 use Rattle.amounts.specs.Names.{nameRight, sameBytes}
 use Rattle.order.specs.declared.Stage.{Stage}
 use Rattle.order.specs.Stages.{atStart}
-use Rattle.order.specs.Order.{among, stands, full, standing, nextStage}
+use Rattle.order.specs.Order.{stands, full, standing, nextStage}
 use Rattle.rules.specs.declared.State.{State}
 use Rattle.rules.specs.State.{startState}
 use Rattle.rules.specs.Stored.{Stored, Value, Mark, storedOf, right, faultOf, wrong}
-use Rattle.rules.specs.Checks.{charFault, orBad, badFields, numberFault, negativeFault, headName, tailName, dateFault, ownFault, fault}
+use Rattle.rules.specs.Checks.{charFault, badFields, numberFault, negativeFault, headName, tailName, dateFault, ownFault, fault}
 use Rattle.rules.specs.Step.{next}
 use Rattle.amounts.proofs.Outcomes.{first-pass}
 use Rattle.judge.specs.declared.Verdict.the-variants.{Accepted}
@@ -39,19 +36,14 @@ use Rattle.judge.specs.Flow.{recordsOf, headNameOf, judged}
 use Rattle.judge.specs.Part.{recordAt}
 use Rattle.judge.specs.Plain.{stateAfter, NoFault, Whole, NoSuchDay, FirstFault, RefusedFor, LongFlow, NoBytes, RaggedFlow, FaultAt, NoTail}
 use Rattle.judge.proofs.Records.{length-chunks, record-number}
-use Rattle.judge.proofs.Accepted.{stands-of, right-of, accepted-means-no-fault}
-use Rattle.judge.proofs.ChecksInOrder.{Only, passed, failed, char-only, allowed-of, number-only, line-only, only-cond, never, other-fault, order-number, refusalAt}
+use Rattle.judge.proofs.Accepted.{stands-of, right-of, head-stands, accepted-means-no-fault}
+use Rattle.judge.proofs.ChecksInOrder.{Only, passed, failed, char-only, field-only, allowed-of, number-only, line-only, only-cond, never, other-fault, order-number, refusalAt}
 use Rattle.judge.proofs.FirstFault.{refused-exactly}
 
 fields-only : (fs : List Field) (r : List ℕ) → Only 7 (badFields fs r)
 unfolding badFields
 fields-only [] r = passed
-fields-only (f ∷ fs) r = go (numberOf (bytesOf r f)) (fields-only fs r)
-  where
-    go : (d : Digits) {o : Outcome} → Only 7 o → Only 7 (orBad d f o)
-    go (Number n) o = o
-    go (NonDigit i) o = failed
-    go TooLong o = failed
+fields-only (f ∷ fs) r = field-only (numberOf (bytesOf r f)) f (fields-only fs r)
 
 -- none of the stored fields is told with 17
 abbrev NoneAt : List Stored → Type 0
@@ -117,21 +109,7 @@ seventeen-at name st r e =
       date = own-seventeen name st (kindIn r) r (d .1);
     }
 
--- at the start nothing but a head may stand
-only-head : (k : Kind) → stands (startState .stage) k ≡ true → k ≡ Head
-unfolding stands among startState
-only-head Head e = refl
-only-head Taxpayer e = cc
-only-head Domicile e = cc
-only-head (Line s) e = cc
-only-head (Balance s) e = cc
-only-head Payment e = cc
-only-head Receipt e = cc
-only-head Addressee e = cc
-only-head Tail e = cc
-only-head Unknown e = cc
-
--- and behind a record that passed no stage is the start again
+-- behind a record that passed, no stage is the start again
 stage-left : (p : Stage) (k : Kind) → stands p k ≡ true → nextStage p k .phase ≡ atStart → ⊥
 unfolding stands
 stage-left p Head h e = omega arith
@@ -173,12 +151,12 @@ head-fails s d = rw (d .characters, d .head, d .digits, d .name, d .day)
 
 -- "A date is valid only if the day exists in that month": an accepted flow has such a date
 pub accepted-date : (s : List ℕ) → judged s .verdict ≡ Accepted → dateRight (valueOf (recordAt s 1) creationDate) ≡ true
-unfolding dateFault
+unfolding dateFault startState
 accepted-date s e =
     let x = accepted-means-no-fault s e in
     let p : NoFault (headNameOf s) startState (recordAt s 1 ∷ drop 1 (recordsOf s)) = rw (first-record s (x .whole)) at (x .passes) in
     let y = right-of (headNameOf s) startState (recordAt s 1) (p .0) in
-    own-date (headNameOf s) (recordAt s 1) (rw (only-head (kindIn (recordAt s 1)) (y .ordered)) at (y .own))
+    own-date (headNameOf s) (recordAt s 1) (rw (head-stands (startState .stage) (kindIn (recordAt s 1)) refl (y .ordered)) at (y .own))
   where
     own-date : (name r : List ℕ) → ownFault name startState Head r ≡ Pass → dateRight (valueOf r creationDate) ≡ true
     own-date name r e = go (dateRight (valueOf r creationDate)) (first-pass (headName (bytesOf r supportName)) _ e .1)

@@ -1,42 +1,24 @@
 -- The laws of rebalancing a flow: where it mends the flow's records, the flow is accepted after it with the sums of its lines; an accepted flow is mended, and keeps every byte.
 use Prim.Native.Nat.{ℕ, _*_, _/_, _%_}
 use mathlib.Core.Path.{_≡_, refl, sym, ap, _∙_}
-use mathlib.Core.Bool.{true, false≢true}
 use mathlib.Core.List.{List, [], _∷_}
 use native.Mathlib.Omega.{arith}
 use lib.ListN.{length}
-use Rattle.layout.specs.declared.Kind.{Kind}
-use Rattle.layout.specs.declared.Kind.the-variants.{Head, Taxpayer, Domicile, Line, Balance, Payment, Receipt, Addressee, Tail, Unknown}
+use Rattle.layout.specs.declared.Kind.the-variants.{Head}
 use Rattle.layout.specs.Kinds.{kindIn}
-use Rattle.order.specs.declared.Stage.{Stage}
 use Rattle.rules.specs.declared.State.{State}
 use Rattle.order.specs.Stages.{atStart}
 use Rattle.rules.specs.State.{startState}
-use Rattle.order.specs.Order.{among, stands}
 use Rattle.rules.specs.Stored.{storedOf}
 use Rattle.rules.specs.Step.{next}
 use Rattle.judge.specs.declared.Verdict.the-variants.{Accepted}
 use Rattle.judge.specs.Flow.{acceptedWith, recordsOf, headNameOf, judged}
 use Rattle.judge.specs.Plain.{Whole, stateAfter}
-use Rattle.judge.proofs.Accepted.{judged-whole, accepted-means-no-fault, sound-phase}
+use Rattle.judge.proofs.Accepted.{head-stands, judged-whole, accepted-means-no-fault, sound-phase}
 use Rattle.rebalance.specs.Rebalance.{rebalanced, flat, Sized, Mendable}
 use Rattle.rebalance.proofs.Emit.{emit-plain, kept-stands}
 use Rattle.rebalance.proofs.Rebalanced.{rebalanced-accepted, faultless-own, faultless-mendable, length-rebalanced, sized-rebalanced}
 use Rattle.rebalance.proofs.Flat.{length-flat, records-flat, flat-chunks, sized-chunks, name-in-front}
-
--- At the start only the head may stand.
-head-stands : (p : Stage) (k : Kind) → p .phase ≡ atStart → stands p k ≡ true → k ≡ Head
-unfolding stands among
-head-stands p Head z e = refl
-head-stands p Taxpayer z e = absurd (false≢true (rw z at e))
-head-stands p Domicile z e = absurd (false≢true (rw z at e))
-head-stands p (Line s) z e = absurd (false≢true (rw z at e))
-head-stands p (Balance s) z e = absurd (false≢true (rw z at e))
-head-stands p Payment z e = absurd (false≢true (rw z at e))
-head-stands p Receipt z e = absurd (false≢true (rw z at e))
-head-stands p Addressee z e = absurd (false≢true (rw z at e))
-head-stands p Tail z e = absurd (false≢true (rw z at e))
-head-stands p Unknown z e = absurd (false≢true e)
 
 -- Rebalancing leaves the name of a flow that begins with its head.
 pub name-kept : (st : State) (r : List ℕ) (rs : List (List ℕ)) → length r ≡ 120 → kindIn r ≡ Head → headNameOf (flat (rebalanced st (r ∷ rs))) ≡ headNameOf (flat (r ∷ rs))
