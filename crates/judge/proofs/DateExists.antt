@@ -31,14 +31,14 @@ use Rattle.rules.specs.Checks.{charFault, badFields, numberFault, negativeFault
 use Rattle.rules.specs.Step.{next}
 use Rattle.amounts.proofs.Outcomes.{first-pass}
 use Rattle.judge.specs.declared.Verdict.the-variants.{Accepted}
-use Rattle.judge.specs.Refusal.{Refusal, refusal, refusalOf}
+use Rattle.judge.specs.Refusal.{refusal, refusalOf}
 use Rattle.judge.specs.Flow.{recordsOf, headNameOf, judged}
 use Rattle.judge.specs.Part.{recordAt}
-use Rattle.judge.specs.Plain.{stateAfter, NoFault, Whole, NoSuchDay, FirstFault, RefusedFor, LongFlow, NoBytes, RaggedFlow, FaultAt, NoTail}
+use Rattle.judge.specs.Plain.{stateAfter, NoFault, Whole, NoSuchDay, FirstFault, FaultAt}
 use Rattle.judge.proofs.Records.{length-chunks, record-number}
 use Rattle.judge.proofs.Accepted.{stands-of, right-of, head-stands, accepted-means-no-fault}
 use Rattle.judge.proofs.ChecksInOrder.{Only, passed, failed, char-only, field-only, allowed-of, number-only, line-only, only-cond, never, other-fault, order-number, refusalAt}
-use Rattle.judge.proofs.FirstFault.{refused-exactly}
+use Rattle.judge.proofs.FirstFault.{record-fault, refused-exactly}
 
 fields-only : (fs : List Field) (r : List ℕ) → Only 7 (badFields fs r)
 unfolding badFields
@@ -168,21 +168,23 @@ accepted-date s e =
 -- 17 is the refusal of a flow exactly where its head has no fault of a smaller number and its date is none, and it is at 1, 14
 pub seventeen-exactly : (s : List ℕ) (k p : ℕ) → (refusalOf (judged s .verdict) ≡ refusal 17 k p) ↔ ((k ≡ 1) × (p ≡ 14) × NoSuchDay s)
 unfolding stateAfter startState
-seventeen-exactly s k p = (λ e. why (refused-exactly s (refusal 17 k p) .0 (e, λ z. omega arith)), told)
+seventeen-exactly s k p = (means, told)
   where
-    named : Whole s → FirstFault (headNameOf s) startState (recordsOf s) 17 k p → (k ≡ 1) × (p ≡ 14) × NoSuchDay s
-    named w f =
+    means : refusalOf (judged s .verdict) ≡ refusal 17 k p → (k ≡ 1) × (p ≡ 14) × NoSuchDay s
+    means e =
+        let x = record-fault s (refusal 17 k p) e (omega arith) in
+        let f = x .1 in
         let t = seventeen-at (headNameOf s) _ (f .here) (f .fails) in
         let b = none-before (headNameOf s) (f .before) (f .passes) (rw (t .date .0) at (t .ordered)) in
         let a : recordsOf s ≡ f .here ∷ f .behind = rw b at (f .split) in
-        let h : f .here ≡ recordAt s 1 = ap (λ (x : List (List ℕ)). getD x 0 []) (sym a ∙ first-record s w) in
+        let h : f .here ≡ recordAt s 1 = ap (λ (x : List (List ℕ)). getD x 0 []) (sym a ∙ first-record s (x .0)) in
         let c = f .counted in
         let l : length (f .before) ≡ 0 = ap length b in
         let d : badFields (fieldsOf Head) (f .here) ≡ Pass = rw (t .date .0) at (t .digits) in (
           omega arith,
           t .date .1,
           record {
-            whole = w;
+            whole = x .0;
             characters = rw h at (t .characters);
             head = rw h at (t .date .0);
             digits = rw h at d;
@@ -190,13 +192,6 @@ seventeen-exactly s k p = (λ e. why (refused-exactly s (refusal 17 k p) .0 (e, 
             day = rw h at (t .date .3);
           },
         )
-
-    why : RefusedFor s (refusal 17 k p) → (k ≡ 1) × (p ≡ 14) × NoSuchDay s
-    why (LongFlow h q) = absurd (omega (arith, ap (λ (y : Refusal). y .number) q))
-    why (NoBytes h q) = absurd (omega (arith, ap (λ (y : Refusal). y .number) q))
-    why (RaggedFlow h g q) = absurd (omega (arith, ap (λ (y : Refusal). y .number) q))
-    why (FaultAt w f) = named w f
-    why (NoTail w u q) = absurd (omega (arith, ap (λ (y : Refusal). y .number) q))
 
     told : (k ≡ 1) × (p ≡ 14) × NoSuchDay s → refusalOf (judged s .verdict) ≡ refusal 17 k p
     told z =

@@ -185,3 +185,14 @@ accepted-exactly s = (λ e. accepted-means-no-fault s (accepted-has-none s .0 e)
 -- "Otherwise the refusal is the first failed check in the stated order": 1 and 2, then the first fault in the order of the records, then 5
 pub refused-exactly : (s : List ℕ) (x : Refusal) → ((refusalOf (judged s .verdict) ≡ x) × (x .number ≡ 0 → ⊥)) ↔ RefusedFor s x
 refused-exactly s x = (λ h. refused-for s x (h .0) (h .1), λ h. (told-for s x h, λ z. let n = reason-number s x h .0 in omega arith))
+
+-- a refusal with a number above 5 is the fault of a record
+pub record-fault : (s : List ℕ) (x : Refusal) → refusalOf (judged s .verdict) ≡ x → 5 < x .number → Whole s × FirstFault (headNameOf s) startState (recordsOf s) (x .number) (x .«record») (x .position)
+record-fault s x e n = go (refused-for s x e (λ z. omega arith))
+  where
+    go : RefusedFor s x → Whole s × FirstFault (headNameOf s) startState (recordsOf s) (x .number) (x .«record») (x .position)
+    go (LongFlow h q) = absurd (omega (arith, ap (λ (y : Refusal). y .number) q))
+    go (NoBytes h q) = absurd (omega (arith, ap (λ (y : Refusal). y .number) q))
+    go (RaggedFlow h g q) = absurd (omega (arith, ap (λ (y : Refusal). y .number) q))
+    go (FaultAt w f) = (w, f)
+    go (NoTail w u q) = absurd (omega (arith, ap (λ (y : Refusal). y .number) q))

@@ -21,17 +21,15 @@ use Rattle.amounts.specs.Outcomes.{first}
 use Rattle.order.specs.declared.Stage.{Stage}
 use Rattle.order.specs.Order.{standing}
 use Rattle.rules.specs.declared.State.{State}
-use Rattle.rules.specs.State.{startState}
 use Rattle.rules.specs.Checks.{charFault, badFields, fault}
 use Rattle.rules.specs.NonDigits.{FirstNonDigit}
 use Rattle.rules.proofs.NonDigits.{fault-told, fault-exactly}
 use Rattle.judge.specs.Refusal.{Refusal, refusal, refusalOf}
 use Rattle.judge.specs.Flow.{recordsOf, headNameOf, judged}
 use Rattle.judge.specs.Part.{recordAt}
-use Rattle.judge.specs.Plain.{FirstFault, RefusedFor, LongFlow, NoBytes, RaggedFlow, FaultAt, NoTail}
 use Rattle.judge.proofs.Records.{length-chunks, record-whole, record-number}
 use Rattle.judge.proofs.ChecksInOrder.{char-only, allowed-of, Never, never, other-fault, order-number, rest-number}
-use Rattle.judge.proofs.FirstFault.{refused-exactly}
+use Rattle.judge.proofs.FirstFault.{record-fault}
 
 -- an outcome that is no 7
 abbrev pub NoSeven : Outcome → Type 0
@@ -81,21 +79,12 @@ module _ (name : List ℕ) (st : State) (r : List ℕ) (l : length r ≡ 120) wh
 
 -- "7 names the first non-digit's own position in every kind of record": of any flow that is refused with 7, in the record told
 pub seven-names-character : (s : List ℕ) (k p : ℕ) → refusalOf (judged s .verdict) ≡ refusal 7 k p → (i : ℕ) × (p ≡ i + 1) × FirstNonDigit (fieldsOf (kindIn (recordAt s k))) (recordAt s k) i
-seven-names-character s k p e = why (refused-exactly s (refusal 7 k p) .0 (e, λ z. omega arith))
-  where
-    named : FirstFault (headNameOf s) startState (recordsOf s) 7 k p → (i : ℕ) × (p ≡ i + 1) × FirstNonDigit (fieldsOf (kindIn (recordAt s k))) (recordAt s k) i
-    named f =
-        let c = f .counted in
-        let n : length (recordsOf s) ≡ length s / 120 = length-chunks (length s / 120) s in
-        let m : length (recordsOf s) ≡ length (f .before) + suc (length (f .behind)) = ap length (f .split) ∙ length-append (f .before) (f .here ∷ f .behind) in
-        let w = record-whole s k (λ z. omega arith) (omega arith) in
-        let j : k - 1 ≡ length (f .before) = omega arith in
-        let h : recordAt s k ≡ f .here = record-number s k (omega arith) ∙ (ap (λ (x : ℕ). getD (recordsOf s) x []) j ∙ (ap (λ (x : List (List ℕ)). getD x (length (f .before)) []) (f .split) ∙ getD-append-seam (f .before) (f .here) (f .behind) [])) in
-        seven-at (headNameOf s) _ (recordAt s k) w (ap (fault (headNameOf s) _) h ∙ f .fails)
-
-    why : RefusedFor s (refusal 7 k p) → (i : ℕ) × (p ≡ i + 1) × FirstNonDigit (fieldsOf (kindIn (recordAt s k))) (recordAt s k) i
-    why (LongFlow h q) = absurd (omega (arith, ap (λ (y : Refusal). y .number) q))
-    why (NoBytes h q) = absurd (omega (arith, ap (λ (y : Refusal). y .number) q))
-    why (RaggedFlow h g q) = absurd (omega (arith, ap (λ (y : Refusal). y .number) q))
-    why (FaultAt w f) = named f
-    why (NoTail w u q) = absurd (omega (arith, ap (λ (y : Refusal). y .number) q))
+seven-names-character s k p e =
+    let f = record-fault s (refusal 7 k p) e (omega arith) .1 in
+    let c = f .counted in
+    let n : length (recordsOf s) ≡ length s / 120 = length-chunks (length s / 120) s in
+    let m : length (recordsOf s) ≡ length (f .before) + suc (length (f .behind)) = ap length (f .split) ∙ length-append (f .before) (f .here ∷ f .behind) in
+    let w = record-whole s k (λ z. omega arith) (omega arith) in
+    let j : k - 1 ≡ length (f .before) = omega arith in
+    let h : recordAt s k ≡ f .here = record-number s k (omega arith) ∙ (ap (λ (x : ℕ). getD (recordsOf s) x []) j ∙ (ap (λ (x : List (List ℕ)). getD x (length (f .before)) []) (f .split) ∙ getD-append-seam (f .before) (f .here) (f .behind) [])) in
+    seven-at (headNameOf s) _ (recordAt s k) w (ap (fault (headNameOf s) _) h ∙ f .fails)
