@@ -60,10 +60,11 @@ digits day month year = day * 10000 + month * 100 + year
 abbrev datesOf : ℕ → ℕ
 datesOf year = total (λ month. passing (λ day. dateRight (digits day month year)) 100) 100
 
--- the same over the days alone, of a leap year or another
+-- the days of a month of a leap year, or of another year
 abbrev lengthOf : Bool → ℕ → ℕ
 lengthOf leapYear month = getD (0 ∷ months leapYear) month 0
 
+-- how many pairs of a month and a day such a year has
 abbrev daysOf : Bool → ℕ
 daysOf b = total (λ month. passing (λ day. within 1 (lengthOf b month) day) 100) 100
 
@@ -72,6 +73,7 @@ unfolding months within
 days-of true = refl
 days-of false = refl
 
+-- a number of six digits is a date where its day is one of its month's
 parts : (day month year : ℕ) → month < 100 → year < 100 → dateRight (digits day month year) ≡ within 1 (lengthOf (leap year) month) day
 unfolding dateRight dayExists daysIn
 parts day month year m y =
