@@ -1,0 +1,57 @@
+-- A test that is computed for every number below a bound holds of each; and so it is shown of the characters that may stand in a place that they count differently.
+use Prim.Native.Nat.{ℕ, zero, suc, _<_}
+use mathlib.Core.Path.{_≡_, refl}
+use mathlib.Core.Bool.{Bool, true, false, cond, false≢true}
+use native.Mathlib.Omega.{arith}
+use lib.Dec.{eqb, ltb}
+use borrow.Author.Tests.{eqb-true, eqb-false, ltb-true, eq-eqb}
+
+abbrev pub allBelow : (ℕ → Bool) → ℕ → Bool
+allBelow f zero = true
+allBelow f (suc n) = cond (f n) (allBelow f n) false
+
+pub each-below : (f : ℕ → Bool) (n : ℕ) → allBelow f n ≡ true → (b : ℕ) → b < n → f b ≡ true
+each-below f zero e b h = absurd (omega arith)
+each-below f (suc n) e b h = go (f n) refl e (eqb b n) refl (λ r l. each-below f n r b l)
+  where
+    go : (t : Bool) → f n ≡ t → cond t (allBelow f n) false ≡ true → (s : Bool) → eqb b n ≡ s → (allBelow f n ≡ true → b < n → f b ≡ true) → f b ≡ true
+    go false p e s q below = absurd (false≢true e)
+    go true p e true q below = rw (eqb-true b n q) p
+    go true p e false q below = let d = eqb-false b n q in below e (omega arith)
+
+-- two tests say the same
+abbrev pub alike : Bool → Bool → Bool
+alike true b = b
+alike false b = cond b false true
+
+pub alike-same : (a b : Bool) → alike a b ≡ true → a ≡ b
+alike-same true true e = refl
+alike-same true false e = absurd (false≢true e)
+alike-same false true e = absurd (false≢true e)
+alike-same false false e = refl
+
+-- what a test of two tests says
+pub cond-true : (a b : Bool) → cond a b false ≡ true → (a ≡ true) × (b ≡ true)
+cond-true true b e = (refl, e)
+cond-true false b e = absurd (false≢true e)
+
+-- the characters that pass r count less than m, each another number
+pub record Tells (r : ℕ → Bool) (v : ℕ → ℕ) (m : ℕ) : Type 0 where
+  pub small : (a : ℕ) → r a ≡ true → v a < m
+  pub apart : (a b : ℕ) → r a ≡ true → r b ≡ true → v a ≡ v b → a ≡ b
+
+module _ (r : ℕ → Bool) (v : ℕ → ℕ) (m n : ℕ) where
+  abbrev other : ℕ → ℕ → Bool
+  other a b = cond (r b) (cond (eqb (v a) (v b)) (eqb a b) true) true
+
+  abbrev counts : ℕ → Bool
+  counts a = cond (r a) (cond (ltb (v a) m) (allBelow (other a) n) false) true
+
+  pub tells : ((a : ℕ) → r a ≡ true → a < n) → allBelow counts n ≡ true → Tells r v m
+  tells below t = record { small = λ a p. ltb-true (v a) m (each a p .0); apart = λ a b p q e. eqb-true a b (same a b q e (each-below (other a) n (each a p .1) b (below b q))) }
+    where
+      each : (a : ℕ) → r a ≡ true → (ltb (v a) m ≡ true) × (allBelow (other a) n ≡ true)
+      each a p = cond-true _ _ (rw p at (each-below counts n t a (below a p)))
+
+      same : (a b : ℕ) → r b ≡ true → v a ≡ v b → other a b ≡ true → eqb a b ≡ true
+      same a b q e h = rw (q, eq-eqb (v a) (v b) e) at h

@@ -1,0 +1,9 @@
+pub mod Computed
+pub mod Characters
+pub mod Digits
+pub mod Turns
+pub mod PersonTurns
+pub mod FirmTurns
+pub mod Examples
+pub mod Slips
+pub mod OneAnswer

@@ -1,0 +1,4 @@
+pub mod Places
+pub mod Persons
+pub mod Firms
+pub mod TaxCodes
