@@ -1,4 +1,4 @@
-"""Two flows that most cases start from, and the columns that the judgement reads."""
+"""Two flows that most cases start from, the columns that the judgement reads, and three tax codes."""
 
 from flow import delega, flow
 
@@ -20,11 +20,14 @@ def full():
                 delega(ident=[(60000, 0)]))
 
 
+# Tax codes, in the sixteen columns of record 10: the two of 02, ask 2, of which one passes, and a firm's that passes (codes.py has it worked out).
+PERSON, WRONG_CODE, FIRM = "RSSMRA85T10A562S", "RSSMRA85T10A562T", "03417520545     "
+
 # The columns read, from docs/COLUMNS.md, by kind of record.
 READ = {
     "F4": [(2, 3), (14, 19), (20, 39)],
     "EF": [(2, 3), (20, 39), (46, 52), (53, 67), (83, 89)],
-    "10": [(2, 3), (4, 10)],
+    "10": [(2, 3), (4, 10), (11, 26)],
     "20": [(2, 3), (4, 10)],
     "40-01": [(2, 3), (4, 10), (11, 12), (27, 41), (42, 56)],
     "40-02": [(2, 3), (4, 10), (11, 12), (13, 27), (28, 42), (43, 43), (44, 58)],

@@ -1,7 +1,7 @@
 """Corrections of one line: those that are made, 21, 22, 9, 14 and 23, and their order."""
 
 from case import no, yes
-from common import plain
+from common import FIRM, PERSON, WRONG_CODE, full, plain
 from correction import Told, made, refused
 from flow import delega, flow
 
@@ -50,6 +50,15 @@ for word, fill in (("tilde", "~"), ("nine", "9")):
         2, 20, 86007, erario=(10000, 2000), inps=(20000, 3000), regioni=(30000, 4000), imu=(40000, 5000), ident=(7, 0)), UNREAD)
 made("credits-of-50-01-stay", PLAIN, (1, 5, 2), (0, 3000), yes(1, 8, 7000, regioni=(10000, 3000)),
      "Decision: 50-01's 79-93 is not written, although the builder puts the delega's credits there")
+
+# --- Made: the tax code stays -----------------------------------------------------------------------------------------
+CODE = "01, What a correction may touch: nothing else; 02, ask 2: demand 3 reads the amended list, and a code that passes is no fault"
+for word, code in (("printed-in-02", PERSON), ("of-a-firm", FIRM), ("of-letters", "RSSMRAURTMLARSNL"), ("of-zeros", "00000000000     ")):
+    made("code-%s-stays" % word, Told(dict(regioni=[(10000, 0), (0, 2500)], payer={"tax_code": code})), (1, 5, 1), (20000, 0),
+         yes(1, 8, 17500, regioni=(20000, 2500)), CODE)
+BOTH = Told(dict(regioni=[(100, 50)], payer={"tax_code": PERSON}), dict(imu=[(7, 0)], payer={"tax_code": FIRM}))
+made("codes-of-two-deleghe-stay", BOTH, (2, 7, 1), (8, 1), yes(2, 12, 57, regioni=(100, 50), imu=(8, 1)), CODE)
+made("codes-of-two-deleghe-same-amounts", BOTH, (1, 5, 1), (100, 50), yes(2, 12, 57, regioni=(100, 50), imu=(7, 0)), "01: new amounts equal to the old leave every byte equal")
 
 # --- Made: signs and balances -----------------------------------------------------------------------------------------
 SIGN = "01, Sections: N when debits are below credits, P in all other cases, zero included"
@@ -223,6 +232,22 @@ refused("own-14-with-its-place", flow(delega(erario=[(7499, 0)], regioni=[(2500,
         no(14, 9, 2), JUDGED)
 refused("own-20-with-its-place", plain().put(8, 53, "000000000007501"), (1, 5, 1), (10001, 0), no(20, 8, 53), JUDGED)
 refused("own-17-no-such-day", plain(date="310215"), (1, 5, 1), (10001, 0), no(17, 1, 14), JUDGED + "; 02, ask 4: valid only if the day exists in that month")
+OWN_CODE = JUDGED + "; 02, ask 2: 26 at the field's start"
+mistyped = plain().put(2, 11, WRONG_CODE)
+refused("own-26-where-all-else-is-right", mistyped, (1, 5, 1), (10001, 0), no(26, 2, 11), OWN_CODE)
+refused("own-26-to-the-same-amounts", mistyped, (1, 5, 1), (10000, 0), no(26, 2, 11), OWN_CODE)
+refused("own-26-before-21", mistyped, (0, 5, 1), (1, 0), no(26, 2, 11), OWN_CODE)
+refused("own-26-before-21-no-such-line", mistyped, (1, 17, 1), (1, 0), no(26, 2, 11), OWN_CODE)
+refused("own-26-before-22", mistyped, (1, 5, 1), (OVER, 0), no(26, 2, 11), OWN_CODE)
+refused("own-26-before-9", mistyped, (1, 5, 1), (0, 0), no(26, 2, 11), OWN_CODE)
+refused("own-26-before-14", mistyped, (1, 5, 2), (0, 10001), no(26, 2, 11), OWN_CODE)
+refused("own-26-before-23", flow(delega(regioni=[(MOST, 0), (0, 1)])).put(2, 11, WRONG_CODE), (1, 5, 2), (1, 0), no(26, 2, 11), OWN_CODE)
+refused("own-26-of-another-delega", full().put(15, 11, WRONG_CODE), (1, 5, 1), (1, 0), no(26, 15, 11), OWN_CODE)
+refused("own-26-of-an-earlier-delega", full().put(2, 11, " " * 16), (2, 17, 1), (1, 0), no(26, 2, 11), OWN_CODE)
+refused("own-26-lower-case", plain().put(2, 11, PERSON.lower()), (1, 5, 1), (10001, 0), no(26, 2, 11), OWN_CODE)
+refused("own-26-of-a-firm", plain().put(2, 11, "03417520546     "), (1, 5, 1), (10001, 0), no(26, 2, 11), OWN_CODE)
+refused("own-26-before-a-later-13", plain().put(2, 11, WRONG_CODE).put(6, 46, "000000000012500"), (1, 5, 1), (10001, 0), no(26, 2, 11), OWN_CODE)
+refused("own-8-before-26", plain().put(2, 11, WRONG_CODE).put(2, 4, "0000002"), (1, 5, 1), (10001, 0), no(8, 2, 4), JUDGED + "; 02, ask 2: 26 after 8 in the same record")
 refused("own-3-in-a-filler", plain().put(8, 120, b"\x7f"), (1, 5, 1), (1, 0), no(3, 8, 120), JUDGED)
 refused("own-4-behind-the-tail", plain().add(bytearray(b" " * 120)), (1, 5, 1), (10001, 0), no(4, 9, 2), JUDGED)
 refused("own-5-without-tail", plain().keep(7), (1, 5, 1), (10001, 0), no(5, 8, 0), JUDGED)

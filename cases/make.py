@@ -6,7 +6,7 @@ from pathlib import Path
 
 sys.dont_write_bytecode = True
 
-import sound, order, fields, amounts, several, samples      # each adds its cases to the list
+import sound, order, fields, amounts, codes, several, samples      # each adds its cases to the list
 import dates
 from case import CASES
 
@@ -14,7 +14,7 @@ ROOT = Path(__file__).resolve().parent.parent
 
 names = [name for name, *_ in CASES]
 assert len(set(names)) == len(names), sorted(n for n in names if names.count(n) > 1)
-assert all(re.fullmatch(r"[a-z0-9]+(-[a-z0-9]+)*", n) for n in names), names
+assert all(re.fullmatch(r"[a-z0-9]+(-[a-z0-9]+)*", n) and len(n) <= 40 for n in names), names
 
 flows, stdout = bytearray(), []
 for name, expected, data, why in CASES:

@@ -1,7 +1,7 @@
 """The calls that read: one delega, one line, a step of a walk. Every answer is written by hand; the bytes of a record that is shown are
 those that the builder wrote."""
 
-from common import full, plain
+from common import FIRM, PERSON, WRONG_CODE, full, plain
 from flow import delega, flow
 
 CALLS = []          # (name, five numbers, bytes, expected lines, why)
@@ -38,6 +38,11 @@ alike = flow(delega(regioni=[(1, 0), (2, 0), (3, 0)]), delega(regioni=[(4, 0), (
 bad = changed(plain(), 6, 45, b"N")         # 40-06 says N for a positive balance
 comma = plain().put(4, 29, "000000000100,00")
 no_such_day = plain(date="290215")
+mistyped = plain().put(2, 11, WRONG_CODE)
+mistyped_later = full().put(15, 11, WRONG_CODE)         # in the second delega
+coded = flow(delega(regioni=[(4, 1)], payer={"tax_code": PERSON}), delega(imu=[(6, 0)], payer={"tax_code": FIRM}))
+CODE = "01: every call on a flow judges it first; 02, ask 2: 26 at the field's start"
+PASSES = "02, ask 2: a code that passes is no fault"
 DAY = "01: every call on a flow judges it first; 02, ask 4: valid only if the day exists in that month"
 SEVEN = "01: every call on a flow judges it first; 02, Ask 5: 7 names the first non-digit's own position"
 
@@ -53,6 +58,11 @@ call("delega-above", DELEGA, [3], two, ["REFUSED 21 0 0"], "01: a number above t
 call("delega-largest", DELEGA, [LARGEST], two, ["REFUSED 21 0 0"], "01: numbers of every size are taken")
 call("delega-of-a-flow-refused-7", DELEGA, [1], comma, ["REFUSED 7 4 41"], SEVEN)
 call("delega-of-a-flow-refused-17", DELEGA, [1], no_such_day, ["REFUSED 17 1 14"], DAY)
+call("delega-of-a-flow-refused-26", DELEGA, [1], mistyped, ["REFUSED 26 2 11"], CODE)
+call("delega-0-of-a-flow-refused-26", DELEGA, [0], mistyped, ["REFUSED 26 2 11"], CODE)
+call("delega-1-where-2-is-refused-26", DELEGA, [1], mistyped_later, ["REFUSED 26 15 11"], CODE)
+call("delega-of-a-person", DELEGA, [1], coded, ["DELEGA 1 3", *sums(regioni=(4, 1))], PASSES)
+call("delega-of-a-firm", DELEGA, [2], coded, ["DELEGA 2 6", *sums(imu=(6, 0))], PASSES)
 call("delega-of-a-refused-flow", DELEGA, [0], bad, ["REFUSED 12 6 45"], "01: every call on a flow judges it first")
 call("delega-of-nothing", DELEGA, [1], b"", ["REFUSED 2 0 0"], "01: every call on a flow judges it first")
 call("delega-of-a-flow-too-long", DELEGA, [1], b" " * 65521, ["REFUSED 1 0 0"], "01: every call on a flow judges it first")
@@ -70,6 +80,10 @@ for name, numbers in [("no-delega", (3, 5, 1)), ("delega-zero", (0, 5, 1)), ("ab
     call("line-" + name, LINE, list(numbers), alike, ["REFUSED 21 0 0"], "01: 21, no such delega, section or line")
 call("line-of-a-flow-refused-7", LINE, [1, 5, 1], comma, ["REFUSED 7 4 41"], SEVEN)
 call("line-of-a-flow-refused-17", LINE, [1, 5, 1], no_such_day, ["REFUSED 17 1 14"], DAY)
+call("line-of-a-flow-refused-26", LINE, [1, 5, 1], mistyped, ["REFUSED 26 2 11"], CODE)
+call("line-none-of-a-flow-refused-26", LINE, [1, 5, 9], mistyped, ["REFUSED 26 2 11"], CODE)
+call("line-1-where-delega-2-is-refused-26", LINE, [1, 1, 1], mistyped_later, ["REFUSED 26 15 11"], CODE)
+call("line-of-a-firm", LINE, [2, 7, 1], coded, ["LINE 9", shown(coded, 9)], PASSES)
 call("line-of-a-refused-flow", LINE, [9, 9, 9], bad, ["REFUSED 12 6 45"], "01: every call on a flow judges it first")
 call("line-of-119-bytes", LINE, [1, 5, 1], bytes(plain())[:119], ["REFUSED 2 0 0"], "01: every call on a flow judges it first")
 
@@ -82,6 +96,12 @@ call("step-beyond-the-end", STEP, [9], plain(), ["NO MORE", "PLACE 9"], "01, the
 call("step-from-the-largest-place", STEP, [LARGEST], plain(), ["NO MORE", "PLACE %d" % LARGEST], "01, the walk: at a place beyond it too")
 call("step-of-a-flow-refused-7", STEP, [3], comma, ["REFUSED 7 4 41", "PLACE 3"], SEVEN)
 call("step-of-a-flow-refused-17", STEP, [3], no_such_day, ["REFUSED 17 1 14", "PLACE 3"], DAY)
+call("step-of-a-flow-refused-26", STEP, [0], mistyped, ["REFUSED 26 2 11", "PLACE 0"], CODE)
+call("step-of-a-flow-refused-26-later", STEP, [3], mistyped, ["REFUSED 26 2 11", "PLACE 3"], CODE)
+call("step-before-a-delega-refused-26", STEP, [1], mistyped_later, ["REFUSED 26 15 11", "PLACE 1"], CODE)
+call("step-beyond-of-a-flow-refused-26", STEP, [99], mistyped, ["REFUSED 26 2 11", "PLACE 99"], CODE)
+call("step-to-a-persons-code", STEP, [1], coded, ["2 " + shown(coded, 2), "PLACE 2"], PASSES)
+call("step-to-a-firms-code", STEP, [6], coded, ["7 " + shown(coded, 7), "PLACE 7"], PASSES)
 call("step-of-a-refused-flow", STEP, [0], bad, ["REFUSED 12 6 45", "PLACE 0"], "01, the walk: a refused step does the same with its refusal")
 call("step-of-a-refused-flow-later", STEP, [5], bad, ["REFUSED 12 6 45", "PLACE 5"], "01, the walk: the place stays")
 call("step-of-nothing", STEP, [0], b"", ["REFUSED 2 0 0", "PLACE 0"], "01, the walk: a refused step does the same with its refusal")

@@ -1,5 +1,5 @@
 """The sample flows and sheets, in the columns that 000 gives for each record. All persons, firms and accounts are invented; the check
-characters of the tax codes and of the accounts are right."""
+characters of the tax codes and of the accounts are right, but for the tax code of wrong-code.f24."""
 
 from case import case, no, yes
 from flow import delega, flow
@@ -67,6 +67,11 @@ def wrong_balance():
     return regional_tax().put(6, 46, "000000000012500")
 
 
+def wrong_code():
+    """As regional_tax, but two neighbours in the tax code are exchanged, 57 for the year 75. L would be its last letter."""
+    return regional_tax().put(2, 11, "BNCLRA57D52G478N")
+
+
 def two_deleghe():
     """A sheet: a cooperative with three sections, then a roaster's payment with identifying elements."""
     return sheet(
@@ -82,13 +87,15 @@ def bad_count():
     return regional_tax(sheet).count("regioni", "2 ")
 
 
-SAMPLES = {"regioni.f24": regional_tax(), "all-sections.f24": all_sections(), "wrong-balance.f24": wrong_balance()}
+SAMPLES = {"regioni.f24": regional_tax(), "all-sections.f24": all_sections(), "wrong-balance.f24": wrong_balance(),
+           "wrong-code.f24": wrong_code()}
 
 case("sample-regioni", yes(1, 8, 7500, regioni=(10000, 2500)), SAMPLES["regioni.f24"],
      "01, Examples: the answer printed whole")
 case("sample-all-sections", yes(2, 27, 1991543, erario=(518316, 120050), inps=(656675, 0), regioni=(239302, 1500), imu=(163400, 0),
                                 ident=(535400, 0)), SAMPLES["all-sections.f24"], "01, Order: all five sections")
 case("sample-wrong-balance", no(13, 6, 46), SAMPLES["wrong-balance.f24"], "01, Sections: the balance is the difference")
+case("sample-wrong-code", no(26, 2, 11), SAMPLES["wrong-code.f24"], "02, ask 2: the values of the first fifteen, summed modulo 26, give the last letter")
 
 SHEETS = {"regioni.sheet": regional_tax(sheet), "two-deleghe.sheet": two_deleghe(), "bad-count.sheet": bad_count()}
 

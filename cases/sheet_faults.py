@@ -1,7 +1,8 @@
-"""Sheets whose records to be written have a fault: 3, 4 by the slot and by the order, 6, 7, 9, 14, 16 and 17, then 23; and their order.
+"""Sheets whose records to be written have a fault: 3, 4 by the slot and by the order, 6, 7, 9, 14, 16, 17 and 26, then 23; and their order.
 Record numbers are those of the flow to be written, balance records included."""
 
 from case import no, yes
+from common import FIRM, PERSON, WRONG_CODE
 from flow import SECTIONS, delega
 from sheet import refused, sheet, written
 from sheets import LINE, MOST, every, plain
@@ -191,6 +192,54 @@ tail_date = least().put("EF", 14, "9/9:99")
 tail_date.flow.put(7, 14, "9/9:99")
 written("tail-date-is-carried", tail_date, LEAST, "Decision: EF's own date is not read and not filled")
 
+# --- 26 ---------------------------------------------------------------------------------------------------------------
+KEYED = "02, ask 2: the taxpayer's code must be checked; Decision: in a sheet it is as it is keyed, since of record 10 only 4-10 is filled"
+for word, code in (("printed-in-02", WRONG_CODE), ("blank", " " * 16), ("lower-case", PERSON.lower()), ("last-lower", "RSSMRA85T10A562s"), ("o-for-0", "RSSMRA85T1OA562S"),
+                   ("exchanged", "RSSMRA58T10A562S"), ("place-rule", "RSSMRA85T1A0562S"), ("as-a-digit", "RSSMRA85T10A56NS"), ("fifteen", "RSSMRA85T10A562 "),
+                   ("firm", "03417520546     "), ("firm-to-the-right", "     03417520545"), ("no-leading-zero", "3417520545      "), ("sixteen-digits", "0341752054500000"),
+                   ("firm-and-a-letter", "03417520545    A"), ("country-before", "IT03417520545   ")):
+    refused("26-" + word, least().put("10", 11, code), no(26, 2, 11), KEYED)
+for name in SECTIONS:
+    refused("26-beside-" + name, least(name).put("10", 11, WRONG_CODE), no(26, 2, 11), KEYED)
+IN_THE_FLOW = "02, ask 2: 26 at the field's start; Decision: balance records are counted"
+refused("26-second-delega", sheet(delega(regioni=[(1, 0)]), delega(regioni=[(2, 0)])).put("10", 11, WRONG_CODE, delega=2), no(26, 7, 11), IN_THE_FLOW)
+refused("26-second-delega-of-every", every().put("10", 11, WRONG_CODE, delega=2), no(26, 13, 11), IN_THE_FLOW)
+refused("26-third-delega", sheet(*[delega(erario=[(1, 0)], imu=[(1, 0)])] * 3).put("10", 11, " " * 16, delega=3), no(26, 16, 11), IN_THE_FLOW)
+refused("26-first-of-two", every().put("10", 11, WRONG_CODE).put("10", 11, WRONG_CODE, delega=2), no(26, 2, 11), "01: the first blocking fault ends the judgement")
+refused("26-codes-mixed", sheet(delega(regioni=[(1, 0)], payer={"tax_code": PERSON}), delega(regioni=[(2, 0)], payer={"tax_code": FIRM})).put(
+    "10", 11, "03417520545A562S").put("10", 11, "RSSMRA85T10     ", delega=2), no(26, 2, 11), KEYED)
+TURN = "02, ask 2: 26 after 8 in the same record; 01: within a record in the order of the numbers"
+for position in (11, 12, 18, 25, 26):
+    refused("3-in-the-code-at-%d" % position, least().put("10", position, b"\xe8"), no(3, 2, position), TURN + ": 3 before 26")
+refused("3-beside-a-wrong-code", least().put("10", 11, WRONG_CODE).put("10", 120, "\t"), no(3, 2, 120), TURN + ": 3 before 26")
+refused("4-before-26", least().put("10", 11, WRONG_CODE).put("10", 2, "20"), no(4, 2, 2), TURN + ": 4 by the slot before 26")
+refused("4-a-20-in-the-slot-of-10", least().record("10", bytes(least().at("20").data)), no(4, 2, 2), TURN + ": 4 by the slot before 26")
+refused("4-10-with-a-wrong-code-in-20", least().record("20", bytes(least().put("10", 11, WRONG_CODE).at("10").data)), no(4, 3, 2), TURN + ": 4 by the slot before 26")
+for word, text in (("letters", "x"), ("control-bytes", "\n"), ("sevens", "7")):
+    refused("26-behind-keyed-" + word, least().key(text).put("10", 11, WRONG_CODE), no(26, 2, 11), "Decision: what is filled is taken as right, 3, 7 and 8 included; 26 is not about it")
+    written("code-behind-keyed-" + word, least().key(text), LEAST, "Decision: what is filled is taken as right, 3, 7 and 8 included")
+BEHIND = "01: records are judged in order, and the first blocking fault ends the judgement; 26 belongs to record 2"
+bare = lambda: least().put("10", 11, WRONG_CODE)
+refused("26-behind-3", bare().put("F4", 120, "\n"), no(3, 1, 120), BEHIND)
+refused("26-behind-4", bare().put("F4", 2, "EF"), no(4, 1, 2), BEHIND)
+refused("26-behind-7", bare().put("F4", 14, " "), no(7, 1, 14), BEHIND)
+refused("26-behind-16", bare().put("F4", 20, "/"), no(16, 1, 20), BEHIND)
+refused("26-behind-17", bare().put("F4", 14, "310215"), no(17, 1, 14), BEHIND)
+refused("26-behind-14-of-the-first", sheet(delega(imu=[(0, 1)]), delega(imu=[(1, 0)])).put("10", 11, WRONG_CODE, delega=2), no(14, 6, 2), BEHIND)
+refused("26-before-3", bare().put("20", 1, "\n"), no(26, 2, 11), BEHIND)
+refused("26-before-4-by-the-slot", bare().put("20", 2, "10"), no(26, 2, 11), BEHIND)
+refused("26-before-4-by-the-order", sheet(delega()).put("10", 11, WRONG_CODE), no(26, 2, 11), BEHIND)
+refused("26-before-6", least("imu", FIVE).put("10", 11, WRONG_CODE), no(26, 2, 11), BEHIND)
+refused("26-before-7", bare().put("regioni", 29, " "), no(26, 2, 11), BEHIND)
+refused("26-before-9", least("regioni", [(0, 0)]).put("10", 11, WRONG_CODE), no(26, 2, 11), BEHIND)
+refused("26-before-14", least("regioni", [(0, 1)]).put("10", 11, WRONG_CODE), no(26, 2, 11), BEHIND)
+refused("26-before-the-tail", bare().put("EF", 2, "ef"), no(26, 2, 11), BEHIND)
+COLUMNS = "02, ask 2: in the columns 000 gives, which are 11-26 of record 10"
+refused("26-one-column-late", least().put("10", 11, " " * 17).put("10", 12, PERSON), no(26, 2, 11), COLUMNS)
+refused("26-one-column-early", least().put("10", 10, PERSON + " "), no(26, 2, 11), COLUMNS + "; 10 is filled, so that what stands there is neither 7 nor 8")
+refused("26-firm-one-column-early", least().put("10", 10, FIRM + " "), no(26, 2, 11), COLUMNS + "; 10 is filled, so that what stands there is neither 7 nor 8")
+refused("26-right-in-50-01-alone", least().put("10", 11, WRONG_CODE).put("50-01", 54, PERSON), no(26, 2, 11), COLUMNS)
+
 # --- 23, after every fault of every record ----------------------------------------------------------------------------
 FITS = "02: then 23; 01, Refusals: a total, balance or sum that has more digits than its field"
 refused("23-total-debit", least("regioni", [(MOST, 0), (1, 0)]), no(23, 0, 0), FITS)
@@ -213,6 +262,8 @@ refused("4-at-50-01-before-23", least("regioni", TOO).put("50-01", 11, "03"), no
 refused("9-before-23", least("ident", [*TOO, (0, 0)]), no(9, 6, 41), LAST)
 refused("7-before-23", sheet(delega(ident=TOO), delega(inps=[(1, 0)])).put("inps", 60, "y", delega=2), no(7, 10, 60), LAST)
 refused("4-by-the-order-before-23", sheet(delega(erario=TOO), delega()), no(4, 10, 2), LAST)
+refused("26-before-23", least("erario", TOO).put("10", 11, WRONG_CODE), no(26, 2, 11), LAST)
+refused("26-of-a-later-delega-before-23", sheet(delega(erario=TOO), delega(inps=[(1, 0)])).put("10", 11, WRONG_CODE, delega=2), no(26, 8, 11), LAST)
 refused("17-before-23", least("erario", TOO).put("F4", 14, "320101"), no(17, 1, 14), LAST)
 refused("24-before-23", least("erario", TOO).add(b" "), no(24, 0, 0), LAST)
 

@@ -1,6 +1,7 @@
 """Flows written from sheets: what is written, and the refusals of the whole sheet: 24, 25 and 1, with their order."""
 
 from case import no, yes
+from common import FIRM, PERSON, WRONG_CODE
 from flow import SECTIONS, delega
 from sheet import MOST_ROOM, refused, sheet, written
 
@@ -128,6 +129,20 @@ for slot, number, record, positions in (("10", 1, 2, (1,)), ("20", 1, 3, (1, 11)
         carried.flow.put(record, position, "@")
 written("beside-what-is-filled", carried, EVERY, CARRIED)
 
+# --- Written: the tax code, as it is keyed ----------------------------------------------------------------------------
+CODE = "02, ask 1: what it writes carries the sheet's records, the filled columns apart; 02, ask 2: a code that passes is no fault"
+for word, code in (("printed-in-02", PERSON), ("of-a-firm", FIRM), ("of-letters", "RSSMRAURTMLARSNL"), ("of-zeros", "00000000000     "), ("last-a", "CHVXVR64E21Z131A"),
+                   ("last-z", "YLMKRM77P41Z243Z"), ("month-f", "RSSMRA85F10A562R")):
+    written("code-" + word, sheet(delega(regioni=[(10000, 0), (0, 2500)], payer={"tax_code": code})), PLAIN, CODE)
+coded = (delega(regioni=[(1, 0)], payer={"tax_code": PERSON}), delega(regioni=[(2, 0)], payer={"tax_code": FIRM}))
+written("code-of-two-deleghe", sheet(*coded), TWO, CODE)
+written("code-beside-what-is-filled", sheet(*coded).key("9"), TWO, CODE + "; 4-10 is filled, 11-26 is not")
+other = plain()
+for slot, number, position in (("20", 3, 82), ("50-01", 7, 54)):
+    other.put(slot, position, WRONG_CODE)
+    other.flow.put(number, position, WRONG_CODE)
+written("code-of-20-and-50-01-unread", other, PLAIN, "02, ask 2: the taxpayer's code; those in 20 (82-97) and 50-01 (54-69) are not read, and are carried")
+
 # --- Written: the room ------------------------------------------------------------------------------------------------
 PAST = "01: a call that succeeds leaves so the lent room past what it writes"
 for more in (1, 119, 120, 1000):
@@ -201,6 +216,12 @@ refused("25-before-3", plain().put("F4", 1, "\n"), no(25, 0, 0), ORDER, length=9
 refused("25-before-4", plain().put("10", 2, "20"), no(25, 0, 0), ORDER, length=959)
 refused("25-before-6", sheet(delega(regioni=[(1, 0)] * 5)), no(25, 0, 0), ORDER, length=1319)
 refused("25-before-17", plain().put("F4", 14, "320125"), no(25, 0, 0), ORDER, length=0)
+mistyped = plain().put("10", 11, WRONG_CODE)
+refused("24-before-26", plain().put("10", 11, WRONG_CODE).count("ident", "0 "), no(24, 0, 0), ORDER)
+refused("24-before-26-left", plain().put("10", 11, WRONG_CODE).add(b"\n"), no(24, 0, 0), ORDER)
+refused("25-before-26", mistyped, no(25, 0, 0), ORDER, length=959)
+refused("26-in-a-room-that-is-just-enough", mistyped, no(26, 2, 11), ORDER, length=960)
+refused("26-in-a-room-that-is-longer", mistyped, no(26, 2, 11), ORDER, length=1100)
 refused("25-before-23", sheet(delega(regioni=[(MOST, 0), (1, 0)])), no(25, 0, 0), ORDER, length=959)
 many = sheet(*[delega(erario=[(1, 0)], inps=[(1, 0)], regioni=[(1, 0)], imu=[(1, 0)])] * 49, delega(erario=[(1, 0)] * 2))
 assert len(many.flow.records) == 547
@@ -211,4 +232,5 @@ assert len(none.flow.records) == 545 and len(bytes(none)) == 67213
 refused("longest-sheet", none, no(4, 4, 2), "Decision: a delega without lines is 4 at its 50-01; 545 records are no 1", length=65400)
 wrong = sheet(*[delega(**{name: [(0, 0)] for name in SECTIONS})] * 42).put("F4", 2, "ff").put("F4", 1, "\0").put("F4", 20, "/")
 assert len(wrong.flow.records) == 548
+refused("1-before-26", sheet(*[delega(**{name: [(1, 0)] for name in SECTIONS})] * 42).put("10", 11, WRONG_CODE), no(1, 0, 0), ORDER, length=MOST_ROOM)
 refused("1-before-the-records", wrong, no(1, 0, 0), ORDER, length=MOST_ROOM)

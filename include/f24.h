@@ -16,7 +16,7 @@
  *
  * What a function returns:
  *   0             accepted, found, made or written: see each function for the answer
- *   1 to 25       the number of the refusal, as docs/REFUSALS.md lists them. answer[0] is then the record and answer[1]
+ *   1 to 26       the number of the refusal, as docs/REFUSALS.md lists them. answer[0] is then the record and answer[1]
  *                 the position, both 0 where the refusal has no place; nothing else is written
  *   100           there is room for too few numbers in answer (F24_NO_ROOM): nothing was read, written or corrected
  *

@@ -8,6 +8,7 @@
 
 mod calendar;
 mod calls;
+mod codes;
 mod columns;
 mod dates;
 mod ffi;
@@ -17,6 +18,7 @@ mod quick;
 mod rival;
 mod rng;
 mod sound;
+mod taxcodes;
 
 use calls::{Call, MOST_NUMBERS};
 use columns::RECORD;

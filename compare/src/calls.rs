@@ -14,6 +14,12 @@ pub enum Call {
 /// The answer to a call with too little room.
 pub const NO_ROOM: u64 = 100;
 
+/// Whether an answer is one to the records: lengths, room and bytes that are no
+/// sheet come before them.
+pub fn is_of_records(code: u64) -> bool {
+    !matches!(code, 1 | 2 | 24 | 25 | NO_ROOM)
+}
+
 /// The most numbers that any answer has.
 pub const MOST_NUMBERS: usize = 13;
 

@@ -1,12 +1,13 @@
 //! Makes each call on the library and on the reference, from the same bytes,
 //! and compares everything that either leaves behind. The fast judge, which
 //! judges and no more, is held to the reference's judgement, and all of them to
-//! what the generator says of the head.
+//! what the generator says of the head and of the records 10.
 
 use crate::calls::{Call, MOST_NUMBERS, NO_ROOM};
 use crate::ffi;
 use crate::heads;
 use crate::lent::{Lent, Place};
+use crate::payers;
 use crate::quick;
 use crate::rival;
 use crate::rng::Rng;
@@ -115,7 +116,8 @@ impl Comparer {
         let left = self.lent.bytes(&lent.flow);
         let mut says = None;
         if library == code && room == self.room && *left == self.after[..] && quick_same && !beside {
-            says = heads::unlike(flow, code, &self.room);
+            says = heads::unlike(flow, code, &self.room)
+                .or_else(|| payers::unlike(|| payers::in_flow(flow), code, &self.room));
             if says.is_none() {
                 return Ok(code);
             }
@@ -179,44 +181,44 @@ fn same_judgement(flow: &[u8]) -> Compared<()> {
     Err(Box::new(Difference { call, flow, room: before, reference, others, beside: false, says: None }))
 }
 
+/// The answers in the order of the tally, the last for too little room.
+const ANSWERS: [u64; 26] =
+    [0, 1, 2, 3, 4, 5, 6, 7, 8, 9, 10, 11, 12, 13, 14, 15, 16, 17, 18, 19, 20, 21, 22, 23, 26, NO_ROOM];
+
 /// How often each call was answered how.
 pub struct Tally {
-    counts: [[u64; Tally::WAYS]; 4],
+    counts: [[u64; ANSWERS.len()]; 4],
 }
 
 impl Tally {
-    /// 0 to 23; the last place is for too little room.
-    const WAYS: usize = 25;
-
     fn new() -> Self {
-        Tally { counts: [[0; Tally::WAYS]; 4] }
+        Tally { counts: [[0; ANSWERS.len()]; 4] }
     }
 
     fn count(&mut self, call: &Call, code: u64) {
-        let way = if code == NO_ROOM { Tally::WAYS - 1 } else { code as usize };
-        self.counts[call.index()][way] += 1;
+        self.counts[call.index()][way(code)] += 1;
     }
 
-    pub fn of(&self, call: usize, code: usize) -> u64 {
-        self.counts[call][code]
+    pub fn of(&self, call: usize, code: u64) -> u64 {
+        self.counts[call][way(code)]
     }
 
     /// Calls with enough room.
     pub fn calls(&self, call: usize) -> u64 {
-        self.counts[call][..Tally::WAYS - 1].iter().sum()
+        self.counts[call][..ANSWERS.len() - 1].iter().sum()
     }
 
     pub fn print(&self) {
         println!("{:<10} {:>10} {:>10} {:>10} {:>10}", "answer", "judge", "delega", "find", "correct");
-        for way in 0..Tally::WAYS {
-            let name = match way {
+        for code in ANSWERS {
+            let name = match code {
                 0 => "0 done".to_string(),
-                way if way == Tally::WAYS - 1 => "100 room".to_string(),
-                way => way.to_string(),
+                NO_ROOM => "100 room".to_string(),
+                code => code.to_string(),
             };
             print!("{name:<10}");
             for call in 0..4 {
-                match self.counts[call][way] {
+                match self.of(call, code) {
                     0 => print!(" {:>10}", "-"),
                     count => print!(" {count:>10}"),
                 }
@@ -224,4 +226,9 @@ impl Tally {
             println!();
         }
     }
+}
+
+/// The place of an answer in the tally.
+fn way(code: u64) -> usize {
+    ANSWERS.iter().position(|&answer| answer == code).unwrap_or_else(|| panic!("{code} answers no call on a flow"))
 }

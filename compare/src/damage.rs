@@ -1,10 +1,12 @@
 //! Damaged flows. A damage aims at a refusal; what the flow is then answered
 //! is for the library and the reference to say, since damages meet. Where
-//! nothing but the date was damaged the generator knows it too.
+//! nothing but the date and tax codes was damaged the generator knows it too.
 
+use crate::codes;
 use crate::columns::{Kind::*, *};
 use crate::dates;
 use crate::heads;
+use crate::payers;
 use crate::rng::Rng;
 use crate::sound::{get, plan, put, write, DelegaPlan, Flow, Plan, Pool, SectionPlan, Size};
 
@@ -14,6 +16,11 @@ pub struct Made {
     /// The number that the generator says, where it knows it.
     pub known: Option<u64>,
 }
+
+/// What a damage may aim at: the refusals of a judgement, each alike but for 7,
+/// which has many places, and 26, which is come by in ten ways.
+#[rustfmt::skip]
+const AIMS: [u64; 23] = [1, 2, 3, 4, 5, 6, 7, 7, 8, 9, 10, 11, 12, 13, 14, 15, 16, 17, 18, 19, 20, 26, 26];
 
 /// A flow that is sound, damaged in one place or more, or wild.
 pub fn any_flow(rng: &mut Rng, pool: &Pool) -> Made {
@@ -43,11 +50,11 @@ pub fn flow_of(rng: &mut Rng, pool: &Pool, size: Size) -> Made {
     }
 }
 
-/// A flow damaged this many times, each aimed at a refusal from 1 to 20.
+/// A flow damaged this many times.
 pub fn damaged(rng: &mut Rng, pool: &Pool, mut plan: Plan, damages: u64) -> Made {
     let mut left = Vec::new();
     for _ in 0..damages {
-        let aim = rng.between(1, 20);
+        let aim = rng.pick(&AIMS);
         if !in_plan(rng, &mut plan, aim) {
             left.push(aim);
         }
@@ -56,13 +63,38 @@ pub fn damaged(rng: &mut Rng, pool: &Pool, mut plan: Plan, damages: u64) -> Made
     for &aim in left.iter().filter(|&&aim| aim > 2) {
         in_records(rng, &mut flow, aim);
     }
+    if left.contains(&26) && rng.one_in(8) {
+        behind_payer(rng, &mut flow);
+    }
     for &aim in left.iter().filter(|&&aim| aim <= 2) {
         in_length(rng, pool, &mut flow.bytes, aim);
     }
-    // Nothing is wrong but in the head, whose faults the generator knows.
-    let dates_alone = left.len() as u64 == damages && left.iter().all(|&aim| aim == 17);
-    let known = dates_alone.then(|| heads::fault(flow.record(0)).map_or(0, |(number, _)| number));
+    // Nothing is wrong but in records whose faults the generator knows.
+    let alone = left.len() as u64 == damages && left.iter().all(|&aim| matches!(aim, 17 | 26));
+    let known = alone.then(|| fault(&flow).unwrap_or(0));
     Made { flow: flow.bytes, known }
+}
+
+/// The number of the first fault in the head and the records 10, in a flow whose
+/// records stand where they may.
+fn fault(flow: &Flow) -> Option<u64> {
+    let head = heads::fault(&flow.bytes[..RECORD]).map(|(number, _)| number);
+    head.or_else(|| payer_fault(flow).map(|(_, number)| number))
+}
+
+/// The record of the first in the records 10 alone, and its number.
+fn payer_fault(flow: &Flow) -> Option<(usize, u64)> {
+    let slots = flow.kinds.iter().copied().zip(flow.bytes.chunks_exact(RECORD));
+    payers::fault(&payers::in_slots(slots, false))
+}
+
+/// Something wrong in the record behind the first record 10 that is refused, so
+/// that nobody may come to it.
+fn behind_payer(rng: &mut Rng, flow: &mut Flow) {
+    let behind = payer_fault(flow).map(|(at, _)| at).filter(|&at| at < flow.kinds.len());
+    if let Some(at) = behind {
+        codes::spoil_otherwise(rng, flow.record(at));
+    }
 }
 
 /// Damages that leave all other numbers right. Tells whether it did one.
@@ -349,6 +381,13 @@ fn in_records(rng: &mut Rng, flow: &mut Flow, aim: u64) {
         17 => {
             if let Some(at) = find(rng, flow, |kind| kind == Head) {
                 dates::spoil(rng, flow.record(at));
+            }
+        }
+        26 => {
+            // Often the last one: flows of many deleghe are few.
+            let last = flow.kinds.iter().rposition(|&kind| kind == Payer).filter(|_| rng.one_in(3));
+            if let Some(at) = last.or_else(|| find(rng, flow, |kind| kind == Payer)) {
+                codes::spoil(rng, flow.record(at));
             }
         }
         18 => tail_field(rng, flow, TAIL_DELEGHE, COUNT),

@@ -5,6 +5,7 @@
 
 mod calendar;
 mod calls;
+mod codes;
 mod columns;
 mod comparer;
 mod correction;
@@ -12,11 +13,14 @@ mod dates;
 mod ffi;
 mod heads;
 mod lent;
+mod payers;
 mod quick;
 mod report;
 mod rival;
 mod rng;
+mod sorts;
 mod sound;
+mod taxcodes;
 
 use calls::Call;
 use comparer::{Compared, Comparer};

@@ -4,9 +4,10 @@
 //! and the fast judge share a mistake, none of them differs from another, but
 //! all of them differ from this.
 
-use crate::calendar::{Date, Sort, SORTS};
-use crate::calls::NO_ROOM;
+use crate::calendar::{Date, SORTS};
+use crate::calls::is_of_records;
 use crate::columns::*;
+use crate::sorts;
 
 /// The first fault of a head whose characters and type have passed: its number
 /// and its position.
@@ -26,7 +27,7 @@ pub fn fault(head: &[u8]) -> Option<(u64, usize)> {
 /// can't be right.
 pub fn unlike(bytes: &[u8], code: u64, answer: &[u64]) -> Option<String> {
     // These come before the head's own fields.
-    if matches!(code, 1 | 2 | 24 | 25 | NO_ROOM) || (matches!(code, 3 | 4) && answer[0] == 1) {
+    if !is_of_records(code) || (matches!(code, 3 | 4) && answer[0] == 1) {
         return None;
     }
     let says = fault(bytes.get(..RECORD)?).map(|(number, position)| (number, 1, position as u64));
@@ -62,19 +63,11 @@ impl Dates {
         }
     }
 
-    /// The sort that came up least.
     pub fn rarest(&self, call: &str) -> Option<(u64, String)> {
-        let named = |&(sort, name): &(Sort, &str)| (self.counts[sort as usize], format!("{call} {name}"));
-        SORTS.iter().map(named).min()
+        sorts::rarest(&self.counts, &SORTS, call)
     }
 
     pub fn print(&self, call: &str) {
-        println!("{:<34} {call:>10}", "date");
-        for (sort, name) in SORTS {
-            match self.counts[sort as usize] {
-                0 => println!("{name:<34} {:>10}", "-"),
-                count => println!("{name:<34} {count:>10}"),
-            }
-        }
+        sorts::print("date", &self.counts, &SORTS, call);
     }
 }

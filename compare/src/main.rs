@@ -6,15 +6,18 @@
 mod calendar;
 mod calls;
 mod century;
+mod codes;
 mod columns;
 mod comparer;
 mod correction;
 mod damage;
 mod dates;
+mod endings;
 mod ffi;
 mod frames;
 mod heads;
 mod lent;
+mod payers;
 mod probe;
 mod quick;
 mod report;
@@ -25,7 +28,9 @@ mod sheet;
 mod sheet_damage;
 mod sheet_vectors;
 mod sheets;
+mod sorts;
 mod sound;
+mod taxcodes;
 mod trap;
 mod vectors;
 mod writing;
@@ -34,6 +39,7 @@ use calls::Call;
 use comparer::{Compared, Comparer, Difference};
 use damage::Made;
 use heads::Dates;
+use payers::Codes;
 use rng::Rng;
 use sevens::{Character, Sevens};
 use sound::{Amounts, Pool, Size};
@@ -46,6 +52,7 @@ const USAGE: &str = "usage:
   compare SEED FLOWS CORRECTIONS [SHEETS]    compares so many random cases
   compare again SEED KIND INDEX              compares one of these once more; KIND is flow, correction or sheet
   compare dates                              compares every six digits as the date of a flow and of a sheet
+  compare codes FILE                         compares every last character behind the tax codes' beginnings of a file
   compare frames FILE..                      compares the flows of framed files
   compare files FILE..                       compares files, a flow each
   compare sheets FILE..                      compares files, a sheet each
@@ -108,6 +115,7 @@ fn run(words: &[&str]) -> Result<(), Failure> {
     match *words {
         ["again", seed, kind, index] => again(number(seed)?, kind, number(index)?),
         ["dates"] => century::compare(),
+        ["codes", file] => endings::compare(file),
         ["frames", ref files @ ..] if !files.is_empty() => compare_frames(files),
         ["files", ref files @ ..] if !files.is_empty() => compare_files(files),
         ["sheets", ref files @ ..] if !files.is_empty() => sheets::compare_files(files),
@@ -173,7 +181,7 @@ fn compare(seed: u64, flows: u64, corrections: u64, sheets: u64) -> Result<(), F
     if sheets > 0 {
         writings.tally.print();
     }
-    let judged = (0..=20).map(|way| (comparer.tally.of(0, way), format!("judge {way}"))).min();
+    let judged = (0..=20).chain([26]).map(|way| (comparer.tally.of(0, way), format!("judge {way}"))).min();
     let corrected =
         [0, 9, 14, 21, 22, 23].iter().map(|&way| (comparer.tally.of(3, way), format!("correct {way}"))).min();
     let mut seldom = false;
@@ -181,14 +189,17 @@ fn compare(seed: u64, flows: u64, corrections: u64, sheets: u64) -> Result<(), F
     let written = Some((times, format!("write {answer}")));
     let (judged_at, written_at) = (shapes.sevens.rarest("judge"), writings.tally.sevens.rarest_place("write"));
     let (judged_dates, written_dates) = (shapes.dates.rarest("judge"), writings.tally.dates.rarest("write"));
+    let (judged_codes, written_codes) = (shapes.codes.rarest("judge"), writings.tally.codes.rarest("write"));
     for (least, cases, full) in [
         (judged, flows, FULL_FLOWS),
         (judged_at, flows, FULL_FLOWS),
         (judged_dates, flows, FULL_FLOWS),
+        (judged_codes, flows, FULL_FLOWS),
         (corrected, corrections, FULL_CORRECTIONS),
         (written, sheets, FULL_SHEETS),
         (written_at, sheets, FULL_SHEETS),
         (written_dates, sheets, FULL_SHEETS),
+        (written_codes, sheets, FULL_SHEETS),
     ] {
         if let Some((times, answer)) = least.filter(|_| cases > 0) {
             println!("rarest: {answer}, {times} times");
@@ -228,6 +239,7 @@ fn flow_case(comparer: &mut Comparer, pool: &Pool, seed: u64, index: u64, shapes
     let says = known.unwrap_or(code);
     assert!(code == says, "seed {seed}, flow {index}: it is answered {code}, the generator says {says}");
     shapes.dates.count(&flow, code);
+    shapes.codes.count(|| payers::in_flow(&flow), code, comparer.room());
     if code == 7 {
         shapes.sevens.count(&told(comparer, &flow, (seed, index)));
     }
@@ -279,8 +291,8 @@ fn flow_case(comparer: &mut Comparer, pool: &Pool, seed: u64, index: u64, shapes
 /// The flow was accepted: a few others close to it are judged as well.
 fn probes(comparer: &mut Comparer, flow: &[u8], seed: u64, index: u64) -> Compared<()> {
     let mut rng = Rng::new(seed, 8, index);
-    for _ in 0..4 {
-        let (near, known) = probe::probe(&mut rng, flow);
+    for nth in 0..5 {
+        let (near, known) = if nth < 4 { probe::probe(&mut rng, flow) } else { probe::code_probe(&mut rng, flow) };
         let code = comparer.compare_untallied(&mut rng, &near)?;
         let says = known.unwrap_or(code);
         assert!(code == says, "seed {seed}, flow {index}: a probe is answered {code}, the generator says {says}");
@@ -350,7 +362,8 @@ fn correction_case(
 }
 
 /// Accepted flows by size, by deleghe and by section, corrections made by what
-/// they changed, flows refused 7 by the character told, and flows by the date.
+/// they changed, flows refused 7 by the character told, and flows by the date
+/// and the tax codes.
 #[derive(Default)]
 struct Shapes {
     records: [u64; 6],
@@ -361,6 +374,7 @@ struct Shapes {
     corrections: [u64; 4],
     sevens: Sevens,
     dates: Dates,
+    codes: Codes,
 }
 
 impl Shapes {
@@ -413,6 +427,7 @@ impl Shapes {
         println!("accepted flows with a section's sum of more than fifteen digits: {}", self.beyond_fifteen);
         self.sevens.print("judge");
         self.dates.print("judge");
+        self.codes.print("judge");
     }
 }
 

@@ -1,12 +1,14 @@
 //! An accepted flow with one thing changed, at the places where a judge that
 //! reads whole words goes wrong: the characters beside the digits, the ends of
-//! fields, single digits, bytes at the edge of what is allowed; or with another
-//! date close to its own, which may be none. Probes are made from random numbers
-//! of their own, so that the flows beside them are what they are without them,
-//! and are not tallied.
+//! fields, single digits, bytes at the edge of what is allowed; with another
+//! date close to its own, which may be none; or with one other character in a
+//! tax code. Probes are made from random numbers of their own, so that the flows
+//! beside them are what they are without them, and are not tallied.
 
+use crate::codes;
 use crate::columns::{Kind::*, *};
 use crate::dates;
+use crate::payers;
 use crate::rng::Rng;
 
 /// The flow, which was accepted, with one change, and the number that the
@@ -32,6 +34,18 @@ pub fn probe(rng: &mut Rng, accepted: &[u8]) -> (Vec<u8>, Option<u64>) {
         }
     }
     (flow, known)
+}
+
+/// The flow, which was accepted, with another character in one place of a tax
+/// code, and the number that the generator says.
+pub fn code_probe(rng: &mut Rng, accepted: &[u8]) -> (Vec<u8>, Option<u64>) {
+    let mut flow = accepted.to_vec();
+    let is_payer = |&at: &usize| Kind::of(&accepted[at..at + RECORD]) == Some(Payer);
+    let payers: Vec<usize> = (0..accepted.len()).step_by(RECORD).filter(is_payer).collect();
+    let at = rng.pick(&payers);
+    codes::change(rng, &mut flow[at..at + RECORD]);
+    let known = payers::fault(&payers::in_flow(&flow)).map_or(0, |(_, number)| number);
+    (flow, Some(known))
 }
 
 /// A place of so many: the first, the last, or any.

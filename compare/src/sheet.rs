@@ -3,6 +3,7 @@
 //! records' other columns. The flow knows nothing of how a writer works.
 
 use crate::columns::{Kind::*, *};
+use crate::payers::{self, Taxpayer};
 use crate::rng::Rng;
 use crate::sound::{self, get, put, Amounts, DelegaPlan, Plan, Pool, SectionPlan};
 
@@ -99,6 +100,11 @@ pub fn slots(sheet: &[u8]) -> Option<Vec<(Kind, &[u8])>> {
     }
     slots.push((Tail, front(RECORD)?));
     Some(slots)
+}
+
+/// What was keyed in the slots of records 10, as far as the counts lead to them.
+pub fn payers(sheet: &[u8]) -> Vec<Taxpayer<'_>> {
+    payers::in_slots(slots(sheet).unwrap_or_default().into_iter(), true)
 }
 
 /// A plan without receipts, which no sheet has.

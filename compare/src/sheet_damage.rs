@@ -2,10 +2,12 @@
 //! with a room of some length. What a damaged one is answered is for the
 //! library and the reference to say, since damages meet.
 
+use crate::codes;
 use crate::columns::{Kind::*, *};
 use crate::damage;
 use crate::dates;
 use crate::heads;
+use crate::payers;
 use crate::rng::Rng;
 use crate::sevens;
 use crate::sheet::{self, filled, read, Part, Sheet, Size};
@@ -34,6 +36,7 @@ enum Aim {
     Negative,
     Name,
     Date,
+    Code,
     Unfit,
     CountDigit,
     CountOff,
@@ -41,8 +44,9 @@ enum Aim {
     Room,
 }
 
-/// Each alike, but for the date, which is wrong in seven ways.
-const AIMS: [Aim; 17] = [
+/// Each alike, but for digits, which have their places, the date, which is wrong
+/// in seven ways, and the tax code, in ten.
+const AIMS: [Aim; 24] = [
     Aim::Character,
     Aim::SlotType,
     Aim::SlotSubtype,
@@ -50,11 +54,18 @@ const AIMS: [Aim; 17] = [
     Aim::OrderSubtype,
     Aim::Most,
     Aim::Digit,
+    Aim::Digit,
     Aim::LineRule,
     Aim::Negative,
     Aim::Name,
     Aim::Date,
     Aim::Date,
+    Aim::Date,
+    Aim::Code,
+    Aim::Code,
+    Aim::Code,
+    Aim::Code,
+    Aim::Code,
     Aim::Unfit,
     Aim::CountDigit,
     Aim::CountOff,
@@ -178,6 +189,7 @@ fn damaged(rng: &mut Rng, pool: &Pool, mut plan: Plan, damages: u64) -> Case {
         _ if damages > 1 => None,
         Aim::Digit => sevens::in_sheet(&bytes).map(|_| 7),
         Aim::Date => heads::fault(&bytes).map(|(number, _)| number),
+        Aim::Code => payers::fault(&sheet::payers(&bytes)).map(|(_, number)| number),
         _ => None,
     };
     if let Some(number) = wrong {
@@ -290,6 +302,7 @@ fn in_parts(rng: &mut Rng, sheet: &mut Sheet, aim: Aim) {
                 dates::spoil(rng, record);
             }
         }
+        Aim::Code => wrong_code(rng, sheet),
         Aim::CountDigit => {
             let mut counts = sheet.counts();
             let at = rng.pick(&counts);
@@ -494,6 +507,20 @@ fn wrong_name(rng: &mut Rng, sheet: &mut Sheet) {
         if let Some((_, record)) = any(rng, sheet, |kind| kind == slot && here) {
             record[place] = byte;
         }
+    }
+}
+
+/// No tax code, often in the last delega, and now and then something wrong in
+/// the record behind it as well.
+fn wrong_code(rng: &mut Rng, sheet: &mut Sheet) {
+    let places = sheet.places(|slot| slot == Payer);
+    if places.is_empty() {
+        return;
+    }
+    let at = if rng.one_in(3) { places[places.len() - 1] } else { rng.pick(&places) };
+    codes::spoil(rng, sheet.record(at).1);
+    if rng.one_in(8) && matches!(sheet.parts.get(at + 1), Some(Part::Record(..))) {
+        codes::spoil_otherwise(rng, sheet.record(at + 1).1);
     }
 }
 

@@ -20,6 +20,9 @@ const HUGE: usize = 20_000;
 const MOST_HUGE: usize = 1;
 const LARGE: usize = 3000;
 const MOST_LARGE: usize = 8;
+/// Some answers are aimed at more often than others, for all the ways to them:
+/// so many with the same refusal, that the others come up often as well.
+const MOST_ALIKE: u64 = 70;
 /// No longer ones than this.
 const LONGEST_SHEET: usize = 70_000;
 const LONGEST_ROOM: usize = 66_000;
@@ -44,6 +47,10 @@ pub fn write(seed: u64, count: u64, data_to: &str, stdout_to: &str) -> io::Resul
             _ => Size::Deleghe(2 * rng.place(2)),
         };
         let case = sheet_damage::case_of(&mut rng, &pool, size);
+        let answer = answered(&case);
+        if answer > 0 && tally[answer] == MOST_ALIKE {
+            continue;
+        }
         match case.sheet.len().max(case.room) {
             _ if case.sheet.len() > LONGEST_SHEET || case.room > LONGEST_ROOM => continue,
             _ if case.room > MOST_BYTES && (over == MOST_OVER || case.known != Some(1)) => continue,
@@ -56,7 +63,8 @@ pub fn write(seed: u64, count: u64, data_to: &str, stdout_to: &str) -> io::Resul
         }
         written += 1;
         let name = format!("random-{written:04}");
-        tally[one(&name, &case, &mut data, &mut lines)?] += 1;
+        one(&name, &case, &mut data, &mut lines)?;
+        tally[answer] += 1;
         if data.len() > MOST_WRITTEN {
             let message = format!("{written} sheets are more than {MOST_WRITTEN} bytes: ask for fewer");
             return Err(io::Error::new(io::ErrorKind::InvalidInput, message));
@@ -71,10 +79,16 @@ pub fn write(seed: u64, count: u64, data_to: &str, stdout_to: &str) -> io::Resul
     Ok(())
 }
 
-/// Writes a case and its answer, by the reference; gives the answer's place in
-/// the tally. Before the call byte k of the room, counted from 0, is 33 + k
-/// modulo 90.
-fn one(name: &str, case: &Case, data: &mut Vec<u8>, lines: &mut Vec<u8>) -> io::Result<usize> {
+/// The place in the tally of the reference's answer to a case.
+fn answered(case: &Case) -> usize {
+    let answer = reference::write(&case.sheet, &mut vec![0; case.room]);
+    let code = answer.map_or_else(|refusal| u64::from(refusal.number), |_| 0);
+    way(&case.sheet, case.room, code).expect("an answer to a sheet")
+}
+
+/// Writes a case and its answer, by the reference. Before the call byte k of the
+/// room, counted from 0, is 33 + k modulo 90.
+fn one(name: &str, case: &Case, data: &mut Vec<u8>, lines: &mut Vec<u8>) -> io::Result<()> {
     let mut room: Vec<u8> = (0..case.room).map(|at| 33 + (at % 90) as u8).collect();
     let answer = reference::write(&case.sheet, &mut room);
     writeln!(data, "{name:<40} {:020} {:020} {:020} {:020} {:020} {:06}", case.room, 0, 0, 0, 0, case.sheet.len())?;
@@ -83,16 +97,11 @@ fn one(name: &str, case: &Case, data: &mut Vec<u8>, lines: &mut Vec<u8>) -> io::
         data.write_all(b"\n")?;
     }
     writeln!(lines, "{name}")?;
-    let code = match answer {
+    match answer {
         Ok(length) => {
             writeln!(lines, "WRITTEN {length}\nSAME")?;
-            vectors::print(lines, &room[..length])?;
-            0
+            vectors::print(lines, &room[..length]).map(drop)
         }
-        Err(refusal) => {
-            writeln!(lines, "{refusal}\nSAME")?;
-            u64::from(refusal.number)
-        }
-    };
-    Ok(way(&case.sheet, case.room, code).expect("an answer to a sheet"))
+        Err(refusal) => writeln!(lines, "{refusal}\nSAME"),
+    }
 }

@@ -2,6 +2,7 @@
 //! there are; `write` turns it into records with every number worked out, and
 //! fills all other columns with random printable characters.
 
+use crate::codes;
 use crate::columns::{Kind::*, *};
 use crate::dates;
 use crate::rng::Rng;
@@ -504,7 +505,8 @@ pub fn write(rng: &mut Rng, pool: &Pool, plan: &Plan) -> Flow {
 
     let mut sum = 0;
     for (delega, number) in plan.deleghe.iter().zip(1..) {
-        w.record(Payer, number);
+        let code = codes::sound(w.rng);
+        codes::set(w.record(Payer, number), &code);
         w.record(Domicile, number);
         for section in &delega.sections {
             let columns = &SECTIONS[section.section];

@@ -7,6 +7,7 @@ pub const FLOW: u64 = 1;
 pub const CORRECTION: u64 = 2;
 pub const SHEET: u64 = 3;
 pub const DATE: u64 = 4;
+pub const LINE: u64 = 5;
 
 static KIND: AtomicU64 = AtomicU64::new(0);
 static SEED: AtomicU64 = AtomicU64::new(0);
@@ -42,10 +43,11 @@ extern "C" fn trapped(number: i32) {
         FLOW => b": flow ",
         SHEET => b": sheet ",
         DATE => b": date ",
+        LINE => b": line ",
         _ => b": correction ",
     });
     say_number(INDEX.load(Relaxed));
-    if KIND.load(Relaxed) != DATE {
+    if !matches!(KIND.load(Relaxed), DATE | LINE) {
         say(b" of seed ");
         say_number(SEED.load(Relaxed));
         say(b" (once more: again SEED flow|correction|sheet INDEX)");

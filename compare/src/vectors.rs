@@ -29,7 +29,7 @@ fn most_records(rng: &mut Rng, pool: &Pool) -> Vec<u8> {
 pub fn write(seed: u64, count: u64, flows: &str, stdout: &str) -> io::Result<()> {
     let pool = Pool::new(seed);
     let (mut data, mut lines) = (Vec::new(), Vec::new());
-    let mut tally = [0_u64; 21];
+    let mut tally = [0_u64; 27];
     let (mut written, mut too_long, mut large, mut index) = (0, 0, 0, 0);
     while written < count {
         let mut rng = Rng::new(seed, 3, index);
@@ -65,8 +65,8 @@ pub fn write(seed: u64, count: u64, flows: &str, stdout: &str) -> io::Result<()>
     fs::write(flows, &data)?;
     fs::write(stdout, &lines)?;
     println!("{written} flows, {} bytes; {} bytes of answers", data.len(), lines.len());
-    for (way, times) in tally.iter().enumerate() {
-        println!("{way:>2} {times}");
+    for way in (0..=20).chain([26]) {
+        println!("{way:>2} {}", tally[way]);
     }
     Ok(())
 }

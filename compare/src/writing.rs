@@ -6,9 +6,11 @@ use crate::columns::{COUNT, RECORD, TAIL_DELEGHE};
 use crate::ffi;
 use crate::heads::{self, Dates};
 use crate::lent::{Lent, Place};
+use crate::payers::{self, Codes};
 use crate::rival::{self, WRITE_NEEDS};
 use crate::rng::Rng;
 use crate::sevens::{self, Sevens};
+use crate::sheet;
 use crate::sheet_damage::Case;
 use crate::sound::get;
 use std::fs;
@@ -150,6 +152,9 @@ fn unlike(case: &Case, before: &[u8], left: &Left) -> Option<String> {
     if let Some(why) = heads::unlike(&case.sheet, left.code, &left.answer) {
         return Some(why);
     }
+    if let Some(why) = payers::unlike(|| sheet::payers(&case.sheet), left.code, &left.answer) {
+        return Some(why);
+    }
     if way(&case.sheet, case.room, left.code).is_none() {
         return Some("both give a number that answers no sheet".to_string());
     }
@@ -169,7 +174,7 @@ fn unlike(case: &Case, before: &[u8], left: &Left) -> Option<String> {
 }
 
 /// The answers to a sheet in the order of the tally: 4 comes in four ways.
-pub const WAYS: [&str; 17] = [
+pub const WAYS: [&str; 18] = [
     "0 written",
     "1",
     "3",
@@ -186,6 +191,7 @@ pub const WAYS: [&str; 17] = [
     "23",
     "24",
     "25",
+    "26",
     "100 room",
 ];
 
@@ -212,6 +218,7 @@ pub struct Tally {
     /// Where 7 was told.
     pub sevens: Sevens,
     pub dates: Dates,
+    pub codes: Codes,
 }
 
 impl Tally {
@@ -219,6 +226,7 @@ impl Tally {
         self.counts[way] += 1;
         self.known += u64::from(case.known.is_some());
         self.dates.count(&case.sheet, left.code);
+        self.codes.count(|| sheet::payers(&case.sheet), left.code, &left.answer);
         if left.code == 7 {
             sevens::in_sheet(&case.sheet).iter().for_each(|character| self.sevens.count(character));
         }
@@ -257,6 +265,7 @@ impl Tally {
         println!("answers that the generator knew: {}", self.known);
         self.sevens.print("write");
         self.dates.print("write");
+        self.codes.print("write");
     }
 }
 

@@ -1,7 +1,7 @@
 //! A judge for CBI F24 payment flows, written for speed, after the rules of
 //! document 01 with the columns of CBI-F24-001. Words in quotation marks are
-//! those rules'. Refusal 7 points where document 02 has it point, and a date is
-//! what 02 says that it is.
+//! those rules'. Refusal 7 points where document 02 has it point, a date is
+//! what 02 says that it is, and so is the taxpayer's code.
 //!
 //! The records are gone through as the grammar says: head, deleghe with
 //! sections of lines, tail. Each is compared with the few that may stand
@@ -11,6 +11,7 @@
 #![forbid(unsafe_code)]
 
 mod characters;
+mod codes;
 mod ends;
 mod faults;
 mod layout;

@@ -37,6 +37,11 @@ fn numbered(kind: &str, delega: usize, subtype: &str) -> Record {
     record(&[(2, kind), (4, &format!("{delega:07}{subtype}"))])
 }
 
+/// A record 10, whose code is a person's or a firm's in turn.
+fn taxpayer(delega: usize) -> Record {
+    numbered("10", delega, ["00743110157     ", "RSSMRA85T10A562S"][delega % 2])
+}
+
 fn line(delega: usize, subtype: u64, (debit, credit): (u64, u64)) -> Record {
     let mut record = numbered("40", delega, &format!("{subtype:02}"));
     let debit_at = match subtype {
@@ -76,7 +81,7 @@ fn flow(deleghe: &[&[Section]]) -> Vec<u8> {
     let mut records = vec![head()];
     let mut total = 0;
     for (number, sections) in (1..).zip(deleghe) {
-        records.extend([numbered("10", number, ""), numbered("20", number, "")]);
+        records.extend([taxpayer(number), numbered("20", number, "")]);
         let (mut debits, mut credits) = (0, 0);
         for &(subtype, lines) in *sections {
             records.extend(lines.iter().map(|&amounts| line(number, subtype, amounts)));
@@ -140,10 +145,10 @@ fn a_blank_is_no_zero() {
 /// All seventeen kinds of record. Records: 1 F4; 2-14 delega 1 with the four
 /// sections, one line each, and its receipts; 15-19 delega 2 with 40-17; 20 EF.
 fn every_kind() -> Vec<u8> {
-    let mut records = vec![head(), numbered("10", 1, ""), numbered("20", 1, "")];
+    let mut records = vec![head(), taxpayer(1), numbered("20", 1, "")];
     records.extend([1, 3, 5, 7].iter().flat_map(|&subtype| [line(1, subtype, (9, 0)), balance(1, subtype, 9, 0)]));
     records.extend([payment(1, 36), numbered("50", 1, "02"), numbered("50", 1, "03")]);
-    records.extend([numbered("10", 2, ""), numbered("20", 2, ""), line(2, 17, (9, 0)), balance(2, 17, 9, 0)]);
+    records.extend([taxpayer(2), numbered("20", 2, ""), line(2, 17, (9, 0)), balance(2, 17, 9, 0)]);
     records.extend([payment(2, 9), tail(2, 20, 45)]);
     records.concat()
 }
@@ -348,6 +353,165 @@ fn every_six_digits_as_the_date() {
     }
 }
 
+// --------------------------------------------------------------- tax codes
+
+/// The letters in the order of what they count in odd places, from 0 on, as the
+/// decree's table has it when it is turned round.
+const BY_VALUE: &str = "BAKPLCQDREVOSFTGUHMINJWZYX";
+
+/// What stands in the seven places for digits.
+const DIGITS: &str = "0123456789LMNPQRSTUV";
+
+fn in_digits_place(place: usize) -> bool {
+    [7, 8, 10, 11, 13, 14, 15].contains(&place)
+}
+
+/// Whether there can be such a code, told from texts and with no table of
+/// numbers.
+fn can_be(code: &str) -> bool {
+    if let Some(digits) = code.strip_suffix("     ") {
+        let value = |(place, digit): (usize, char)| match place % 2 {
+            1 => "0246813579".chars().nth(digit.to_digit(10)? as usize)?.to_digit(10),
+            _ => digit.to_digit(10),
+        };
+        let sum: Option<u32> = digits.chars().enumerate().map(value).sum();
+        return digits.len() == 11 && sum.map_or(false, |sum| sum % 10 == 0);
+    }
+    let held = |(place, held): (usize, char)| match in_digits_place(place) {
+        true => DIGITS.contains(held),
+        false => BY_VALUE.contains(held),
+    };
+    let value = |(place, held): (usize, char)| {
+        let place_from_a = held.to_digit(10).unwrap_or_else(|| held as u32 - 'A' as u32);
+        match place % 2 {
+            0 => place_from_a,
+            _ => BY_VALUE.find((b'A' + place_from_a as u8) as char).unwrap() as u32,
+        }
+    };
+    (1..).zip(code.chars()).all(held)
+        && code[15..]
+            == ((b'A' + ((1..).zip(code[..15].chars()).map(value).sum::<u32>() % 26) as u8) as char).to_string()
+}
+
+#[track_caller]
+fn assert_code(code: &str) -> bool {
+    let flow = with(example(), 2, 11, code);
+    match can_be(code) {
+        true => assert_eq!(judge(&flow), judge(&example()), "{code}"),
+        false => assert_refused(&flow, 26, 2, 11),
+    }
+    can_be(code)
+}
+
+#[test]
+fn codes_of_the_request() {
+    assert!(assert_code("RSSMRA85T10A562S"));
+    assert!(!assert_code("RSSMRA85T10A562T"));
+    for code in ["00000000000     ", "00743110157     ", "12345678903     ", "99999999990     ", "XZXZXZ9VXV9Z9V9J"] {
+        assert!(assert_code(code));
+    }
+    for code in [
+        "                ",
+        "0000000000000000",
+        " 00743110157    ",
+        "0074311015      ",
+        "007431101570    ",
+        "00743110157    0",
+        "00743110157A    ",
+        "00743110157    ~",
+        "0074311015:     ",
+        "/0743110157     ",
+        "rssmra85t10a562s",
+        "RSSMRA85T10A562s",
+        "RSSMRA85T10A562 ",
+        " RSSMRA85T10A562",
+        "RSSMRA85T1OA562S",
+    ] {
+        assert!(!assert_code(code));
+    }
+}
+
+#[test]
+fn every_character_in_every_place_of_a_code() {
+    // Behind each, every last character.
+    for (first, passing) in [("RSSMRA85T10A562", 26 * 8 + 20 * 7), ("BABABALVBVLAVLV", 26 * 8 + 20 * 7)] {
+        let mut passed = 0;
+        for place in 0..15 {
+            for byte in 32..=126_u8 {
+                let mut code = format!("{first} ").into_bytes();
+                code[place] = byte;
+                for last in 32..=126 {
+                    code[15] = last;
+                    passed += usize::from(assert_code(std::str::from_utf8(&code).unwrap()));
+                }
+            }
+        }
+        assert_eq!(passed, passing);
+    }
+}
+
+#[test]
+fn every_two_digits_of_a_firms_code() {
+    for one in 0..11 {
+        for other in one + 1..11 {
+            for digits in 0..100 {
+                let mut code = *b"00743110157     ";
+                (code[one], code[other]) = (b'0' + digits / 10, b'0' + digits % 10);
+                assert_code(std::str::from_utf8(&code).unwrap());
+            }
+        }
+    }
+    for place in 0..16 {
+        for byte in 32..=126 {
+            let mut code = *b"00000000000     ";
+            code[place] = byte;
+            assert_code(std::str::from_utf8(&code).unwrap());
+        }
+    }
+}
+
+#[test]
+fn sums_beyond_a_byte() {
+    let mut passed = 0;
+    for digits in ["9V", "0L", "VV", "U9"] {
+        for letters in ["XZ", "YZ", "ZX", "AB"] {
+            for last in 'A'..='Z' {
+                let in_place = |place: usize| if in_digits_place(place) { digits } else { letters };
+                let mut code: String =
+                    (1..16).map(|place| &in_place(place)[(place + 1) % 2..=(place + 1) % 2]).collect();
+                code.push(last);
+                passed += usize::from(assert_code(&code));
+            }
+        }
+    }
+    assert_eq!(passed, 16);
+}
+
+#[test]
+fn the_code_among_other_faults() {
+    let wrong = with(example(), 2, 26, "T");
+    assert_refused(&wrong, 26, 2, 11);
+    for position in [1, 4, 11, 26, 27, 120] {
+        assert_refused(&with(wrong.clone(), 2, position, "\t"), 3, 2, position);
+    }
+    assert_refused(&with(wrong.clone(), 2, 2, "20"), 4, 2, 2);
+    for position in 4..=10 {
+        assert_refused(&with(wrong.clone(), 2, position, "x"), 7, 2, position);
+        assert_refused(&with(wrong.clone(), 2, position, "7"), 8, 2, 4);
+    }
+    // Before every fault of the records behind it, and after the head's.
+    for (record, position, text) in [(3, 1, "\t"), (3, 2, "10"), (3, 4, "x"), (3, 10, "2"), (8, 46, "x")] {
+        assert_refused(&with(wrong.clone(), record, position, text), 26, 2, 11);
+    }
+    assert_refused(&wrong[..2 * RECORD], 26, 2, 11);
+    assert_refused(&with(wrong, 1, 14, "310215"), 17, 1, 14);
+    // In every delega, in and beside the blocks that are tested at once.
+    let sound = longest();
+    for record in (2..=537).step_by(5) {
+        assert_refused(&with(sound.clone(), record, 18, "~"), 26, record, 11);
+    }
+}
+
 // ------------------------------------------------------- words and columns
 
 #[test]
@@ -384,7 +548,7 @@ fn columns_hold_the_most_lines_of_nines() {
 #[test]
 fn sums_beyond_fifteen_digits_are_not_reduced() {
     let two = [line(1, 1, (MOST, 0)), line(1, 1, (1, 0))].concat();
-    let begun = [head(), numbered("10", 1, ""), numbered("20", 1, "")].concat();
+    let begun = [head(), taxpayer(1), numbered("20", 1, "")].concat();
     assert_refused(&[begun, two, balance(1, 1, 0, 0).to_vec()].concat(), 10, 6, 13);
     let part: &[Section] = &[(1, &[(MOST, MOST)])];
     let summary = judge(&flow(&[part, part, part])).unwrap();
@@ -396,7 +560,7 @@ fn numbers_of_deleghe() {
     let mut number = Number::ZERO;
     for expected in 1..=1100 {
         number = number.next();
-        assert!(number.is_in(&numbered("10", expected, ""), b'1'));
+        assert!(number.is_in(&taxpayer(expected), b'1'));
         assert!(number.is_in_part(&numbered("40", expected, "17"), b"4000", *b"17"));
     }
     for place in 4..=10 {

@@ -5,6 +5,7 @@
 //! compares comes in the order of the refusals' numbers.
 
 use crate::characters::first_bad;
+use crate::codes;
 use crate::ends::judge_head;
 use crate::faults::{ensure, fault, seven, unexpected, Fault, Kind, END};
 use crate::layout::*;
@@ -130,6 +131,7 @@ impl<'a> Walk<'a> {
             if !number.is_in(record, b'1') {
                 break;
             }
+            ensure(codes::passes(record), 26, CODE)?;
             self.number = number;
             self.deleghe += 1;
             self.pass();

@@ -29,7 +29,7 @@ fn digits(record: &Record, position: usize) -> u64 {
 }
 
 /// This byte eight times.
-const fn each(byte: u8) -> u64 {
+pub const fn each(byte: u8) -> u64 {
     byte as u64 * 0x0101_0101_0101_0101
 }
 
@@ -41,7 +41,7 @@ fn above_nine(digits: u64) -> u64 {
 
 /// Whether all these words are digits.
 #[inline(always)]
-fn all_digits<const WORDS: usize>(words: [u64; WORDS]) -> bool {
+pub fn all_digits<const WORDS: usize>(words: [u64; WORDS]) -> bool {
     words.iter().fold(0, |beyond, &word| beyond | above_nine(word)) & each(128) == 0
 }
 

@@ -3,6 +3,7 @@
 //! "Records are judged in order, and within a record the checks in the order
 //! of their numbers; the first blocking fault ends the judgement."
 
+use super::codes::{self, Code};
 use super::dates;
 use super::digits::{fifteen, seven, six};
 use super::layout::*;
@@ -111,11 +112,15 @@ impl Judgement {
         ensure(dates::valid(date), 17, DATE)
     }
 
-    /// "The first delega is 1, each next one is one more"
+    /// "The first delega is 1, each next one is one more", and document 02: "The
+    /// taxpayer's code must be checked".
     pub fn taxpayer(&mut self, record: &Record) -> Result<(), Fault> {
         let number = count(record, DELEGA)?;
         self.deleghe += 1;
         self.open_delega(number)?;
+
+        // Document 02: "26 at the field's start, after 8 in the same record."
+        ensure(codes::valid(&code(record)), 26, CODE)?;
 
         // "Sums start at zero for every delega."
         self.delega = Sums::default();
@@ -287,6 +292,12 @@ fn name(record: &Record) -> [u8; NAME_WIDTH] {
     let mut name = [0; NAME_WIDTH];
     name.copy_from_slice(&record[NAME - 1..NAME - 1 + NAME_WIDTH]);
     name
+}
+
+fn code(record: &Record) -> Code {
+    let mut code = [0; CODE_WIDTH];
+    code.copy_from_slice(&record[CODE - 1..CODE - 1 + CODE_WIDTH]);
+    code
 }
 
 /// A seven-digit count or number, or fault 7 at its start.

@@ -22,6 +22,10 @@ pub const DELEGA: usize = 4;
 /// Records 40 and 50: subtype at 11-12.
 pub const SUBTYPE: usize = 11;
 
+/// 10: the taxpayer's code at 11-26, "in the columns 000 gives" (7.1.3).
+pub const CODE: usize = 11;
+pub const CODE_WIDTH: usize = 16;
+
 /// F4: creation date at 14-19, day, month, two-digit year.
 pub const DATE: usize = 14;
 /// F4 and EF: support name at 20-39.

@@ -1,11 +1,12 @@
 //! A judge for CBI F24 payment flows, after the rules of document 01, with
 //! the columns of CBI-F24-001. Words in quotation marks are those rules'. The
 //! writer of flows from working sheets is after document 02, and so are the
-//! position of refusal 7 and the date rule, which 02 amends.
+//! position of refusal 7 and the date rule, which 02 amends, and refusal 26.
 //!
 //! Every input is taken, of every length and value. Sums can't overflow: a
 //! flow has at most 546 records with amounts below 10^15.
 
+mod codes;
 mod dates;
 mod digits;
 mod judgement;

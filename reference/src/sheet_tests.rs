@@ -31,7 +31,7 @@ fn index(subtype: u64) -> usize {
 
 /// All that the writer fills is blank.
 fn sheet(deleghe: &[&[Built]]) -> Sheet {
-    let keyed = |sections: &&[Built]| {
+    let keyed = |(number, sections): (u64, &&[Built])| {
         let mut lines: [Vec<Record>; 5] = Default::default();
         for &(subtype, amounts) in *sections {
             for &amounts in amounts {
@@ -40,16 +40,15 @@ fn sheet(deleghe: &[&[Built]]) -> Sheet {
                 lines[index(subtype)].push(record);
             }
         }
-        let blank = |kind, subtype| {
-            let mut record = numbered(kind, 1, subtype);
+        let blank = |mut record: Record| {
             put(&mut record, 4, "       ");
             record
         };
         Keyed {
-            payer: blank("10", ""),
-            domicile: blank("20", ""),
+            payer: blank(taxpayer(number)),
+            domicile: blank(numbered("20", 1, "")),
             lines,
-            payment: blank("50", "01"),
+            payment: blank(numbered("50", 1, "01")),
         }
     };
     let mut tail = tail(0, 0, 0);
@@ -58,7 +57,7 @@ fn sheet(deleghe: &[&[Built]]) -> Sheet {
     put(&mut tail, 83, &" ".repeat(7));
     Sheet {
         head: head(),
-        deleghe: deleghe.iter().map(keyed).collect(),
+        deleghe: (1..).zip(deleghe).map(keyed).collect(),
         tail,
     }
 }
@@ -405,7 +404,7 @@ fn a_record_that_is_not_of_its_slots_kind() {
         }
     }
     // 11-12 of the others is no subtype.
-    for place in [1, 2, 3, 7] {
+    for place in [1, 3, 7] {
         assert!(asked(&example().with(place, 11, "99").bytes(), AMPLE).is_ok());
     }
 }
@@ -614,6 +613,56 @@ fn names_and_dates() {
     assert_unwritten(&wrong, 17, 1, 14);
     assert_eq!(asked(&wrong.bytes(), 959), Err(refused(25, 0, 0)));
     assert_eq!(asked(&wrong.bytes()[..852], 0), Err(refused(24, 0, 0)));
+}
+
+#[test]
+fn tax_codes() {
+    let flow = one(5, &[(10000, 0), (0, 2500)]);
+    for code in CODES {
+        // As keyed, whatever stands in the number's columns.
+        for byte in [b' ', b'9', b'x', b'\n'] {
+            let sheet = example().keyed(byte).with(2, 11, code);
+            assert_written(&sheet, &with(flow.clone(), 2, 11, code));
+        }
+    }
+    for code in NO_CODES {
+        for byte in [b' ', b'9', b'x', b'\n'] {
+            let sheet = example().keyed(byte).with(2, 11, code);
+            assert_unwritten(&sheet, 26, 2, 11);
+        }
+    }
+    // The second delega's record 10 is the sheet's eighth and the flow's
+    // ninth, since a balance record is made before it.
+    let lines: &[Built] = &[(5, &[(1, 0), (2, 0), (3, 0)])];
+    for code in NO_CODES {
+        let sheet = sheet(&[lines, lines]).with(8, 11, code);
+        assert_unwritten(&sheet, 26, 9, 11);
+        assert_unwritten(&sheet.with(2, 11, code), 26, 2, 11);
+    }
+}
+
+#[test]
+fn where_the_code_stands_among_the_faults() {
+    let wrong = example().with(2, 11, "RSSMRA85T10A562T");
+    // 3 of its record but in the number, and 4 by the slot.
+    for position in [1, 3, 11, 26, 120] {
+        assert_unwritten(&wrong.clone().with(2, position, "\n"), 3, 2, position);
+    }
+    for kind in ["F4", "20", "40", "EF"] {
+        assert_unwritten(&wrong.clone().with(2, 2, kind), 4, 2, 2);
+    }
+    // The number is filled, so that 7 and 8 can't come up.
+    for number in ["x", "9999999", "\n"] {
+        assert_unwritten(&wrong.clone().with(2, 4, number), 26, 2, 11);
+    }
+    // Later records, 23, 24 and 25.
+    assert_unwritten(&wrong.clone().with(3, 1, "\n"), 26, 2, 11);
+    assert_unwritten(&wrong.clone().with(3, 2, "10"), 26, 2, 11);
+    assert_unwritten(&wrong.clone().with(1, 14, "310215"), 17, 1, 14);
+    let unfit = sheet(&[&[(5, &[(MOST, 0), (1, 0)])]]);
+    assert_unwritten(&unfit.with(2, 26, "T"), 26, 2, 11);
+    assert_eq!(asked(&wrong.bytes(), 959), Err(refused(25, 0, 0)));
+    assert_eq!(asked(&wrong.bytes()[..852], AMPLE), Err(refused(24, 0, 0)));
 }
 
 #[test]

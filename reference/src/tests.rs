@@ -50,6 +50,22 @@ pub fn numbered(kind: &str, delega: u64, subtype: &str) -> Record {
     record
 }
 
+/// Codes that pass: those of persons, with digits and with letters for some of
+/// them, and those of firms.
+pub const CODES: [&str; 6] = [
+    "RSSMRA85T10A562S",
+    "00743110157     ",
+    "BNCGLI90A41H50MW",
+    "00000000000     ",
+    "XZXZXZ9VXV9Z9V9J",
+    "12345678903     ",
+];
+
+/// A record 10; neighbours among the deleghe have different codes.
+pub fn taxpayer(delega: u64) -> Record {
+    numbered("10", delega, CODES[delega as usize % CODES.len()])
+}
+
 pub fn line(delega: u64, subtype: u64, (debit, credit): (u64, u64)) -> Record {
     let (debit_at, credit_at) = match subtype {
         1 => (27, 42),
@@ -111,7 +127,7 @@ fn section(delega: u64, (subtype, lines): Built) -> Vec<Record> {
 
 /// A delega's records and its final balance; a negative one is stored as zero.
 fn delega_records(delega: u64, sections: &[Built]) -> (Vec<Record>, u64) {
-    let mut records = vec![numbered("10", delega, ""), numbered("20", delega, "")];
+    let mut records = vec![taxpayer(delega), numbered("20", delega, "")];
     let (mut debits, mut credits) = (0, 0);
     for &built in sections {
         records.extend(section(delega, built));
@@ -353,7 +369,7 @@ fn characters_are_judged_record_by_record() {
 /// Each state's records and what may stand after them.
 fn states() -> Vec<(Vec<Record>, &'static [&'static str])> {
     const LINES: &[(u64, u64)] = &[(1, 0)];
-    let opened = vec![head(), numbered("10", 1, ""), numbered("20", 1, "")];
+    let opened = vec![head(), taxpayer(1), numbered("20", 1, "")];
     let after_line = |subtype| [opened.clone(), vec![line(1, subtype, (1, 0))]].concat();
     let after_section = |subtype| [opened.clone(), section(1, (subtype, LINES))].concat();
     let paid = [after_section(5), vec![payment(1, 1)]].concat();
@@ -433,7 +449,7 @@ fn records_that_end_before_the_tail() {
 
 #[test]
 fn nothing_after_the_tail() {
-    for record in [head(), numbered("10", 2, ""), tail(1, 9, 7500)] {
+    for record in [head(), taxpayer(2), tail(1, 9, 7500)] {
         assert_refused(&[example(), record.to_vec()].concat(), 4, 9, 2);
     }
     // The count is compared with EF's own record number: 19 comes first.
@@ -555,8 +571,9 @@ fn numeric_fields() {
             };
             let subtype =
                 !matches!(record, 1 | 2 | 3 | 13 | 14 | 18) && matches!(position, 11 | 12);
+            let code = matches!((record, position), (2 | 13, 11..=26));
             let sign = matches!((record, position), (5 | 7 | 16, 43) | (9, 45) | (11, 47));
-            if !read && !subtype && !sign {
+            if !read && !subtype && !code && !sign {
                 put(&mut flow_of_blanks, (record - 1) * 120 + position, "/");
             }
         }
@@ -742,7 +759,7 @@ fn head_and_tail_agree_but_not_with_the_lines() {
     records.push(tail(1, 8, 7500));
     assert_refused(&records.concat(), 20, 8, 53);
     // The totals agree with one another but not with the lines.
-    let mut records = vec![head(), numbered("10", 1, ""), numbered("20", 1, "")];
+    let mut records = vec![head(), taxpayer(1), numbered("20", 1, "")];
     records.extend([line(1, 5, (10000, 0)), line(1, 5, (0, 2500))]);
     records.extend([balance(1, 5, lines), payment(1, 7600), tail(1, 8, 7600)]);
     assert_refused(&records.concat(), 11, 6, 30);
@@ -755,7 +772,7 @@ fn sums_beyond_fifteen_digits_differ_and_are_not_reduced() {
     let two = [(MOST, 0), (1, 0)];
     // The builder's sixteen digits are put right to fifteen before judging.
     let build = |subtype, totals: &[(u64, u64)], lines: &[(u64, u64)]| {
-        let mut records = vec![head(), numbered("10", 1, ""), numbered("20", 1, "")];
+        let mut records = vec![head(), taxpayer(1), numbered("20", 1, "")];
         records.extend(lines.iter().map(|&amounts| line(1, subtype, amounts)));
         records.push(balance(1, subtype, totals));
         records.concat()
@@ -881,6 +898,136 @@ fn tail_counts() {
     // 19 before 20, though 53 stands before 83.
     let flow = with(with(example(), 8, 53, "000000000000000"), 8, 83, "0000000");
     assert_refused(&flow, 19, 8, 83);
+}
+
+// --------------------------------------------------------------- tax codes
+
+/// Sixteen characters that are no code, each in one way or more.
+pub const NO_CODES: [&str; 16] = [
+    "RSSMRA85T10A562T",
+    "RSSMRA85T10A526S",
+    "SRSMRA85T10A562S",
+    "rssmra85t10a562s",
+    "RSSMRA85T10A562s",
+    "RSSMRA85T1OA562S",
+    "RSSMR485T10A562S",
+    "RSSMRA85T10A562 ",
+    " RSSMRA85T10A562",
+    "00743110158     ",
+    "00743110175     ",
+    " 00743110157    ",
+    "00743110157    0",
+    "0000000000000000",
+    "0000000000      ",
+    "                ",
+];
+
+#[test]
+fn codes_that_pass_and_codes_that_do_not() {
+    for code in CODES {
+        assert_eq!(judge(&with(example(), 2, 11, code)), judge(&example()));
+    }
+    for code in NO_CODES {
+        assert_refused(&with(example(), 2, 11, code), 26, 2, 11);
+    }
+    // What stands beside the code is not read.
+    for beside in ["A", "0", " ", "~"] {
+        assert!(judge(&with(example(), 2, 27, beside)).is_ok());
+        assert!(judge(&with(example(), 3, 11, beside)).is_ok());
+    }
+}
+
+#[test]
+fn every_character_of_a_code_counts() {
+    for place in 11..=26 {
+        for text in [" ", "/", ":", "@", "[", "`", "a", "~"] {
+            let flow = with(example(), 2, 11, "RSSMRA85T10A562S");
+            assert_refused(&with(flow, 2, place, text), 26, 2, 11);
+        }
+    }
+}
+
+#[test]
+fn the_code_of_every_delega() {
+    let part: &[Built] = &[(3, &[(1, 0)])];
+    let flow = whole(&[part; 7]);
+    assert_eq!(judge(&flow).unwrap().deleghe, 7);
+    for record in (2..37).step_by(5) {
+        for code in NO_CODES {
+            let wrong = with(flow.clone(), record, 11, code);
+            assert_refused(&wrong, 26, record, 11);
+            // The first of two.
+            if record > 2 {
+                assert_refused(&with(wrong, 2, 11, NO_CODES[0]), 26, 2, 11);
+            }
+        }
+    }
+}
+
+#[test]
+fn the_code_comes_after_3_4_7_and_8_of_its_record() {
+    let wrong = with(example(), 2, 11, "RSSMRA85T10A562T");
+    assert_refused(&wrong, 26, 2, 11);
+    for position in [1, 11, 20, 26, 27, 120] {
+        assert_refused(&with(wrong.clone(), 2, position, "\n"), 3, 2, position);
+    }
+    for kind in ["20", "40", "EF", "1 "] {
+        assert_refused(&with(wrong.clone(), 2, 2, kind), 4, 2, 2);
+    }
+    for position in 4..=10 {
+        assert_refused(&with(wrong.clone(), 2, position, "x"), 7, 2, position);
+    }
+    for number in ["0000000", "0000002", "1000001"] {
+        assert_refused(&with(wrong.clone(), 2, 4, number), 8, 2, 4);
+    }
+}
+
+#[test]
+fn the_code_comes_before_every_later_record() {
+    let wrong = with(example(), 2, 11, "RSSMRA85T10A562T");
+    for (record, position, text) in [
+        (3, 1, "\n"),
+        (3, 2, "40"),
+        (3, 4, "x"),
+        (3, 4, "0000002"),
+        (4, 29, "x"),
+        (8, 46, "0000002"),
+    ] {
+        assert_refused(&with(wrong.clone(), record, position, text), 26, 2, 11);
+    }
+    assert_refused(&wrong[..240], 26, 2, 11);
+    // And after the head's.
+    assert_refused(&with(wrong.clone(), 1, 14, "310215"), 17, 1, 14);
+    assert_refused(&with(wrong, 1, 20, "/"), 16, 1, 20);
+}
+
+#[test]
+fn a_record_10_that_may_not_stand_has_no_code_judged() {
+    let flow = with(example(), 4, 2, "10");
+    assert_refused(&flow, 4, 4, 2);
+    let after = [example(), with(taxpayer(2).to_vec(), 1, 11, "x")].concat();
+    assert_refused(&after, 4, 9, 2);
+}
+
+#[test]
+fn every_call_judges_the_code() {
+    for code in CODES {
+        let mut flow = with(example(), 2, 11, code);
+        assert!(delega(&flow, 1).is_ok());
+        assert_eq!(find(&flow, 1, 5, 1), Ok(4));
+        assert_eq!(correct(&mut flow, 1, 5, 1, 9000, 0), Ok(()));
+        assert_eq!(&flow[130..146], code.as_bytes());
+    }
+    for code in NO_CODES {
+        let before = with(example(), 2, 11, code);
+        let mut flow = before.clone();
+        let refusal = refused(26, 2, 11);
+        assert_eq!(delega(&flow, 1), Err(refusal));
+        assert_eq!(delega(&flow, 0), Err(refusal));
+        assert_eq!(find(&flow, 9, 5, 1), Err(refusal));
+        assert_eq!(correct(&mut flow, 1, 5, 1, 9000, 0), Err(refusal));
+        assert_eq!(flow, before);
+    }
 }
 
 // ------------------------------------------------------------------- calls

@@ -13,7 +13,8 @@ use Rattle.layout.specs.Kinds.{kindIn}
 use Rattle.order.specs.declared.Stage.{Stage}
 use Rattle.rules.specs.declared.State.{State}
 use Rattle.order.specs.Stages.{atStart, afterHead, afterTaxpayer, afterDomicile, afterLine, afterBalance, afterPayment, afterReceipt, afterAddressee, afterTail}
-use Rattle.order.specs.Order.{among, stands}
+use Rattle.text.specs.Among.{among}
+use Rattle.order.specs.Order.{stands}
 use Rattle.rules.specs.Stored.{storedOf}
 use Rattle.order.specs.Order.{nextStage}
 use Rattle.delega.proofs.Moves.{Standing, Each}

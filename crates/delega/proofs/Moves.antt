@@ -17,7 +17,8 @@ use Rattle.amounts.specs.declared.Outcome.the-variants.{Pass}
 use Rattle.rules.specs.declared.State.{State}
 use Rattle.rules.specs.State.{zeroDelega, startState}
 use Rattle.order.specs.Stages.{atStart, afterHead, afterTaxpayer, afterDomicile, afterLine, afterBalance, afterPayment, afterReceipt, afterAddressee}
-use Rattle.order.specs.Order.{among, stands}
+use Rattle.text.specs.Among.{among}
+use Rattle.order.specs.Order.{stands}
 use Rattle.rules.specs.Checks.{numberFault, fault}
 use Rattle.rules.specs.Step.{addedAt, lineSums, nextOf, next}
 use Rattle.judge.specs.Plain.{NoFault}

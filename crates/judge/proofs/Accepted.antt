@@ -21,7 +21,8 @@ use Rattle.rules.specs.declared.State.{State}
 use Rattle.rules.specs.State.{startState}
 use Rattle.order.specs.Stages.{atStart, afterTail}
 use Rattle.amounts.specs.Outcomes.{first}
-use Rattle.order.specs.Order.{among, stands, typeStands, standing}
+use Rattle.text.specs.Among.{among}
+use Rattle.order.specs.Order.{stands, typeStands, standing}
 use Rattle.rules.specs.Stored.{storedOf, wrong}
 use Rattle.rules.specs.Checks.{charFault, badFields, carried, numberFault, ownFault, fault}
 use Rattle.order.specs.Order.{nextStage}

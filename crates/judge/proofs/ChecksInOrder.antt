@@ -1,5 +1,5 @@
 -- The fault of a record is the first failed one of its single checks, and none with a smaller number fails.
-use Prim.Native.Nat.{ℕ, _≤_}
+use Prim.Native.Nat.{ℕ, _≤_, _<_}
 use mathlib.Core.Path.{_≡_, refl, sym, ap, _∙_}
 use mathlib.Core.Bool.{Bool, true, false, cond}
 use mathlib.Core.List.{List, [], _∷_, _++_, map}
@@ -17,7 +17,7 @@ use Rattle.layout.specs.declared.Kind.{Kind}
 use Rattle.layout.specs.declared.Kind.the-variants.{Head, Taxpayer, Domicile, Line, Balance, Payment, Receipt, Addressee, Tail, Unknown}
 use Rattle.layout.specs.Sections.{sectionAt}
 use Rattle.layout.specs.Kinds.{typeIn, kindIn}
-use Rattle.layout.specs.Fields.{amountAt, creationDate, delegaNumber, fieldsOf, supportName, bytesOf, valueOf}
+use Rattle.layout.specs.Fields.{amountAt, creationDate, delegaNumber, taxCode, fieldsOf, supportName, bytesOf, valueOf}
 use Rattle.amounts.specs.declared.Sums.{Sums}
 use Rattle.order.specs.declared.Stage.{Stage}
 use Rattle.amounts.specs.declared.Outcome.{Outcome}
@@ -28,8 +28,9 @@ use Rattle.order.specs.Order.{stands, full, typeStands, standing}
 use Rattle.amounts.specs.Amounts.{lineRight, lineFault}
 use Rattle.amounts.specs.Dates.{dateRight}
 use Rattle.amounts.specs.Names.{nameRight, sameBytes}
+use Rattle.taxcode.specs.TaxCodes.{codeRight}
 use Rattle.rules.specs.Stored.{Stored, Value, Mark, sectionSums, storedBalance, storedOf, right, faultOf, wrong}
-use Rattle.rules.specs.Checks.{charFault, orBad, badFields, carried, numberFault, negativeFault, headName, tailName, dateFault, ownChecks, ownFault, fault}
+use Rattle.rules.specs.Checks.{charFault, orBad, badFields, carried, numberFault, negativeFault, headName, tailName, dateFault, codeFault, ownChecks, ownFault, fault}
 use Rattle.amounts.proofs.Outcomes.{first-assoc, firstOf-cons, firstOf-append}
 use Rattle.judge.specs.Plain.{orderCheck, mostCheck, fieldCheck, storedCheck, checksOf, AtLeast, AllAtLeast}
 
@@ -106,10 +107,10 @@ order-number p t k {n} {q} e = go (stands p k) (full p k) (typeStands p t) e
     go false b true e = let z : _≡_ {A = ℕ} 4 n = cc in omega arith
     go false b false e = let z : _≡_ {A = ℕ} 4 n = cc in omega arith
 
--- checks whose numbers, none of which is 5 or above 20, rise from lo on
+-- checks whose numbers, none of which is 5 or above 20 but for 26, rise from lo on
 abbrev Rising : ℕ → List Outcome → Type 0
 Rising lo [] = Unit {0}
-Rising lo (o ∷ os) = (n : ℕ) × ((lo ≤ n) × (n ≤ 20) × (n ≡ 5 → ⊥)) × Only n o × Rising n os
+Rising lo (o ∷ os) = (n : ℕ) × ((lo ≤ n) × (20 < n → n ≡ 26) × (n ≡ 5 → ⊥)) × Only n o × Rising n os
 
 pub char-only : (c : Characters) → Only 3 (charFault c)
 char-only Allowed = passed
@@ -153,7 +154,7 @@ refusalAt (Mark n c b) = n
 
 abbrev Climbs : ℕ → List Stored → Type 0
 Climbs lo [] = Unit {0}
-Climbs lo (x ∷ xs) = ((lo ≤ refusalAt x) × (refusalAt x ≤ 20) × (refusalAt x ≡ 5 → ⊥)) × Climbs (refusalAt x) xs
+Climbs lo (x ∷ xs) = ((lo ≤ refusalAt x) × (20 < refusalAt x → refusalAt x ≡ 26) × (refusalAt x ≡ 5 → ⊥)) × Climbs (refusalAt x) xs
 
 stored-only : (x : Stored) (r : List ℕ) → Only (refusalAt x) (storedCheck r x)
 stored-only (Value n f v) r = only-cond (right (Value n f v) r) passed failed
@@ -168,14 +169,14 @@ balance-climbs true s t = omega arith
 balance-climbs false s t = omega arith
 
 rest-rising : (name : List ℕ) (st : State) (k : Kind) (r : List ℕ) → Rising 8 (ownChecks name st k r ++ map (storedCheck r) (storedOf st k))
-unfolding headName dateFault negativeFault tailName
+unfolding headName dateFault negativeFault tailName codeFault
 rest-rising name st Head r = (
   16,
   omega arith,
   only-cond (nameRight (bytesOf r supportName)) passed failed,
   (17, omega arith, only-cond (dateRight (valueOf r creationDate)) passed failed, tt),
 )
-rest-rising name st Taxpayer r = tt
+rest-rising name st Taxpayer r = (26, omega arith, only-cond (codeRight (bytesOf r taxCode)) passed failed, tt)
 rest-rising name st Domicile r = tt
 rest-rising name st (Line s) r = (9, omega arith, line-only s _ _, tt)
 rest-rising name st (Balance s) r = stored-rising 8 (storedOf st (Balance s)) r (balance-climbs (sectionAt s .totals) s (sectionSums st s))
@@ -233,7 +234,7 @@ least m lo (o ∷ os) u h = (at-least (omega arith) (u .2), least m (u .0) os (u
 -- a number that a check of one record can have
 pub record Numbered (lo n : ℕ) : Type 0 where
   pub least : lo ≤ n
-  pub most : n ≤ 20
+  pub most : 20 < n → n ≡ 26
   pub not-five : n ≡ 5 → ⊥
 
 rising-first : (lo : ℕ) (os : List Outcome) {n p : ℕ} → Rising lo os → firstOf os ≡ Fault n p → AllAtLeast n os × Numbered lo n
@@ -246,7 +247,7 @@ rising-first lo (Fault m q ∷ os) {n} u e =
     let f = sym (firstOf-cons (Fault m q) os) ∙ e in
     let i : m ≡ n = cc in
     let j = only-number (u .2) in
-    ((omega arith, least n (u .0) os (u .3) (omega arith)), record { least = omega arith; most = omega arith; not-five = λ k. u .1 .2 (omega arith) })
+    ((omega arith, least n (u .0) os (u .3) (omega arith)), record { least = omega arith; most = λ k. let x = u .1 .1 (omega arith) in omega arith; not-five = λ k. u .1 .2 (omega arith) })
 
 -- behind the numeric fields only the checks from 8 on are left
 pub rest-number : (name : List ℕ) (st : State) (r : List ℕ) {n p : ℕ} →
@@ -263,7 +264,7 @@ module _ (name : List ℕ) (st : State) (r : List ℕ) {n p : ℕ} (e : fault na
   smallest : AllAtLeast n (checksOf name st r) × Numbered 3 n
   smallest = rising-first 3 (checksOf name st r) (checks-rising name st r) (sym (fault-is-first name st r) ∙ e)
 
-  -- a record's fault is one of 3 to 20, and not 5, which is told behind the last record
+  -- a record's fault is one of 3 to 20, and not 5, which is told behind the last record; or it is 26
   pub fault-number : Numbered 3 n
   fault-number = smallest .1
 

@@ -12,7 +12,7 @@ use Rattle.layout.specs.declared.Section.{Section}
 use Rattle.layout.specs.declared.RecordType.{RecordType}
 use Rattle.layout.specs.declared.RecordType.the-variants.{F4, T10, T20, T40, T50, EF, NoType}
 use Rattle.layout.specs.declared.Kind.{Kind}
-use Rattle.layout.specs.declared.Kind.the-variants.{Line, Balance, Payment, Receipt, Addressee, Unknown}
+use Rattle.layout.specs.declared.Kind.the-variants.{Taxpayer, Line, Balance, Payment, Receipt, Addressee, Unknown}
 use Rattle.layout.specs.Sections.{sections}
 use Rattle.layout.specs.Kinds.{sectionKindFrom, paymentKind, kindOf, typeIn, subtypeIn, kindIn}
 use Rattle.amounts.specs.declared.Outcome.the-variants.{Pass}
@@ -83,6 +83,27 @@ ten-opens d T50 (NonDigit i) = omega arith
 ten-opens d T50 TooLong = omega arith
 ten-opens d EF n = omega arith
 ten-opens d NoType n = omega arith
+
+opens-one : (t : RecordType) → opens t ≡ 1 → t ≡ T10
+opens-one F4 e = absurd (omega arith)
+opens-one T10 e = refl
+opens-one T20 e = absurd (omega arith)
+opens-one T40 e = absurd (omega arith)
+opens-one T50 e = absurd (omega arith)
+opens-one EF e = absurd (omega arith)
+opens-one NoType e = absurd (omega arith)
+
+pub taxpayer-is-ten : (r : List ℕ) → kindIn r ≡ Taxpayer → typeIn r ≡ T10
+unfolding kindIn
+taxpayer-is-ten r e =
+    let n : nextDeleghe 0 (kindIn r) ≡ 1 = ap (nextDeleghe 0) e in
+    opens-one (typeIn r) (omega (arith, ten-opens 0 (typeIn r) (subtypeIn r)))
+
+-- so the deleghe after records are those before and the records of type 10
+pub deleghe-after : (st : State) (rs : List (List ℕ)) → stateAfter st rs .deleghe ≡ st .deleghe + tensIn rs
+unfolding stateAfter next sumOver kindIn
+deleghe-after st [] = omega arith
+deleghe-after st (r ∷ rs) = omega (arith, deleghe-after (next st r) rs, ten-opens (st .deleghe) (typeIn r) (subtypeIn r))
 
 -- "number of records", those of 120 bytes that the flow has
 pub accepted-records : (s : List ℕ) → judged s .verdict ≡ Accepted → judged s .summary .records ≡ length s / 120

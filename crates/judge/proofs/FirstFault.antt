@@ -146,25 +146,25 @@ told-for s x (NoTail w u e) =
     ∙ (rw (ne-eqb (st .stage .phase) afterTail (λ t. u .ends (ends-in-tail s (u .passes) .0 t))) (ap (λ (k : ℕ). refusal 5 k 0) c)
     ∙ sym e))
 
--- no reason has the number 0, and none a number above 20
-reason-number : (s : List ℕ) (x : Refusal) → RefusedFor s x → (1 ≤ x .number) × (x .number ≤ 20)
-reason-number s x (LongFlow h e) = let n = ap (λ (y : Refusal). y .number) e in (omega arith, omega arith)
-reason-number s x (NoBytes h e) = let n = ap (λ (y : Refusal). y .number) e in (omega arith, omega arith)
-reason-number s x (RaggedFlow h g e) = let n = ap (λ (y : Refusal). y .number) e in (omega arith, omega arith)
+-- no reason has the number 0, and none a number above 20 but 26
+reason-number : (s : List ℕ) (x : Refusal) → RefusedFor s x → (1 ≤ x .number) × (20 < x .number → x .number ≡ 26)
+reason-number s x (LongFlow h e) = let n = ap (λ (y : Refusal). y .number) e in (omega arith, λ h. omega arith)
+reason-number s x (NoBytes h e) = let n = ap (λ (y : Refusal). y .number) e in (omega arith, λ h. omega arith)
+reason-number s x (RaggedFlow h g e) = let n = ap (λ (y : Refusal). y .number) e in (omega arith, λ h. omega arith)
 reason-number s x (FaultAt w f) = let n = fault-number (headNameOf s) _ (f .here) (f .fails) in (omega arith, n .most)
-reason-number s x (NoTail w u e) = let n = ap (λ (y : Refusal). y .number) e in (omega arith, omega arith)
+reason-number s x (NoTail w u e) = let n = ap (λ (y : Refusal). y .number) e in (omega arith, λ h. omega arith)
 
--- a judgement's refusals have the numbers 1 to 20
-pub judgement-number : (s : List ℕ) {n r p : ℕ} → judged s .verdict ≡ Refused n r p → (1 ≤ n) × (n ≤ 20)
+-- a judgement's refusals have the numbers 1 to 20 and 26
+pub judgement-number : (s : List ℕ) {n r p : ℕ} → judged s .verdict ≡ Refused n r p → (1 ≤ n) × (20 < n → n ≡ 26)
 judgement-number s {n} {r} {p} e = by-size (sized s)
   where
     told-with : {m : ℕ} → judged s ≡ refusedWith m 0 0 → n ≡ m
     told-with q = ap (λ (y : Refusal). y .number) (sym (ap refusalOf e) ∙ ap told-of q)
 
-    by-size : Sized s → (1 ≤ n) × (n ≤ 20)
-    by-size (long h) = let k = told-with (judged-long s h) in (omega arith, omega arith)
-    by-size (none h) = let k = told-with (judged-empty s (omega arith) h) in (omega arith, omega arith)
-    by-size (ragged h m g) = let k = told-with (judged-ragged s h m g) in (omega arith, omega arith)
+    by-size : Sized s → (1 ≤ n) × (20 < n → n ≡ 26)
+    by-size (long h) = let k = told-with (judged-long s h) in (omega arith, λ h. omega arith)
+    by-size (none h) = let k = told-with (judged-empty s (omega arith) h) in (omega arith, λ h. omega arith)
+    by-size (ragged h m g) = let k = told-with (judged-ragged s h m g) in (omega arith, λ h. omega arith)
     by-size (whole w) = reason-number s (refusal n r p) (whole-refused s w n r p e)
 
 -- an answer that is no refusal is an acceptance

@@ -9,4 +9,6 @@ pub mod ChecksInOrder
 pub mod FirstFault
 pub mod VeryCharacter
 pub mod OneAnswer
+pub mod OwnNumbers
 pub mod DateExists
+pub mod CodeExists

@@ -19,7 +19,8 @@ use Rattle.amounts.specs.declared.Outcome.the-variants.{Pass, Fault}
 use Rattle.rules.specs.declared.State.{State}
 use Rattle.rules.specs.State.{noSums, startState}
 use Rattle.order.specs.Stages.{atStart, afterHead, afterTaxpayer, afterLine, afterBalance, afterPayment, afterReceipt, afterAddressee}
-use Rattle.order.specs.Order.{among, stands, nextStage}
+use Rattle.text.specs.Among.{among}
+use Rattle.order.specs.Order.{stands, nextStage}
 use Rattle.amounts.specs.Amounts.{finalOf}
 use Rattle.rules.specs.Stored.{storedOf, wrong}
 use Rattle.rules.specs.Checks.{ownFault, negativeFault}

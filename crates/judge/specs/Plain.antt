@@ -4,7 +4,7 @@ use mathlib.Core.Path.{_≡_}
 use mathlib.Core.Bool.{true, false, cond}
 use mathlib.Core.List.{List, [], _∷_, _++_, map}
 use lib.Dec.{eqb}
-use lib.ListN.{length}
+use lib.ListN.{length, take, drop}
 use Rattle.text.specs.declared.Characters.the-variants.{Allowed}
 use Rattle.text.specs.Characters.{firstBad}
 use Rattle.text.specs.Numbers.{numberOf}
@@ -26,6 +26,7 @@ use Rattle.order.specs.Order.{stands, typeStands, full}
 use Rattle.amounts.specs.Amounts.{lineFault}
 use Rattle.amounts.specs.Dates.{dateRight}
 use Rattle.amounts.specs.Names.{nameRight}
+use Rattle.taxcode.specs.TaxCodes.{codeRight}
 use Rattle.rules.specs.Stored.{Stored, storedOf, right, faultOf}
 use Rattle.rules.specs.Checks.{charFault, orBad, badFields, numberFault, ownChecks, fault}
 use Rattle.rules.specs.Step.{next}
@@ -137,6 +138,22 @@ pub record NoSuchDay (s : List ℕ) : Type 0 where
   pub digits : badFields (fieldsOf Head) (recordAt s 1) ≡ Pass
   pub name : nameRight (bytesOf (recordAt s 1) supportName) ≡ true
   pub day : dateRight (valueOf (recordAt s 1) creationDate) ≡ false
+
+-- the first record of a flow that has a fault is the k-th: a record of type 10 that breaks no check before 26, which are 3, 4, 7 and 8, and the code at its positions 11 to 26 cannot exist
+pub record NoSuchCode (s : List ℕ) (k : ℕ) : Type 0 where
+  pub whole : Whole s
+  pub before : List (List ℕ)
+  pub here : List ℕ
+  pub behind : List (List ℕ)
+  pub split : recordsOf s ≡ before ++ (here ∷ behind)
+  pub counted : k ≡ length before + 1
+  pub passes : NoFault (headNameOf s) startState before
+  pub characters : firstBad here ≡ Allowed
+  pub taxpayer : typeIn here ≡ T10
+  pub ordered : stands (stateAfter startState before .stage) Taxpayer ≡ true
+  pub digits : badFields (fieldsOf Taxpayer) here ≡ Pass
+  pub number : valueOf here delegaNumber ≡ tensIn before + 1
+  pub code : codeRight (take 16 (drop 10 here)) ≡ false
 
 -- 4: a record of a type and a kind may stand at a stage
 abbrev pub orderCheck : Stage → RecordType → Kind → Outcome

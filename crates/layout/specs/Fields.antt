@@ -31,6 +31,10 @@ delegaNumber = columns 4 10
 abbrev pub creationDate : Field
 creationDate = columns 14 19
 
+-- 10: "The taxpayer's code", ask 2 of document 02
+abbrev pub taxCode : Field
+taxCode = columns 11 26
+
 -- 50-01: the final balance
 abbrev pub finalBalance : Field
 finalBalance = columns 36 50

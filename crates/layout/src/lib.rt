@@ -53,6 +53,8 @@ impl Position {
 
     pub const SUBTYPE: usize = 11;
 
+    pub const TAX_CODE: usize = 11;
+
     pub const CREATION_DATE: usize = 14;
 
     pub const SUPPORT_NAME: usize = 20;
@@ -66,7 +68,7 @@ impl Position {
     pub const TAIL_RECORDS: usize = 83;
 }
 
-// The indexes of what is taken of a record without being read as a number: where each begins, and of the support name the index behind its end.
+// The indexes of what is taken of a record without being read as a number: where each begins, and of the tax code and the support name the index behind the end.
 pub struct Part {
     pub from: usize,
 }
@@ -75,6 +77,10 @@ impl Part {
     pub const TYPE: usize = Position::TYPE - 1;
 
     pub const SUBTYPE: usize = Position::SUBTYPE - 1;
+
+    pub const TAX_CODE: usize = Position::TAX_CODE - 1;
+
+    pub const TAX_CODE_END: usize = 26;
 
     pub const SUPPORT_NAME: usize = Position::SUPPORT_NAME - 1;
 

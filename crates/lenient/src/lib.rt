@@ -99,7 +99,7 @@ fn tail_fault(name: &[u8], rec: &[u8]) -> Outcome
     Outcome::Fault(16, Position::SUPPORT_NAME)
 }
 
-// Checks 9, 14, 16 and 17: what is judged beside the stored fields.
+// Checks 9, 14, 16, 17 and 26: what is judged beside the stored fields.
 fn own_fault(st: State, name: &[u8], rec: &[u8], kind: Kind) -> Outcome
     requires { ⌜ length (now rec) ≡ 120 ⌝ }
     ensures { λ r. ⌜ r ≡ ownFault (now (name .entry)) st kind (now (rec .entry)) ⌝ }
@@ -109,7 +109,7 @@ fn own_fault(st: State, name: &[u8], rec: &[u8], kind: Kind) -> Outcome
     let all = delega.all;
     match kind {
         Kind::Head => rules::head_record(rec, first_value(rec, kind)),
-        Kind::Taxpayer => Outcome::Pass,
+        Kind::Taxpayer => rules::code_fault(rec),
         Kind::Domicile => Outcome::Pass,
         Kind::Line(s) => {
             let t = records::line_sums(rec, kind);
@@ -124,7 +124,7 @@ fn own_fault(st: State, name: &[u8], rec: &[u8], kind: Kind) -> Outcome
     }
 }
 
-// The checks behind 3 that rebalancing leaves alone, of a record of a kind: 4 and 6, 7 of the fields that are not stored, 8, and then 9, 14, 16 and 17.
+// The checks behind 3 that rebalancing leaves alone, of a record of a kind: 4 and 6, 7 of the fields that are not stored, 8, and then 9, 14, 16, 17 and 26.
 fn kept_fault(st: State, name: &[u8], rec: &[u8], kind: Kind) -> Outcome
     requires { ⌜ (length (now rec) ≡ 120) × (st .deleghe < 1000) ⌝ }
     ensures { λ r. ⌜ r ≡ keptOf (now (name .entry)) st kind (now (rec .entry)) ⌝ }

@@ -3,6 +3,7 @@ use Prim.Native.Nat.{ℕ, _+_}
 use mathlib.Core.Bool.{Bool, true, false, cond}
 use mathlib.Core.List.{List, [], _∷_}
 use lib.Dec.{eqb, ltb, leb}
+use Rattle.text.specs.Among.{among}
 use Rattle.layout.specs.declared.Kind.{Kind}
 use Rattle.layout.specs.declared.Kind.the-variants.{Head, Taxpayer, Domicile, Line, Balance, Payment, Receipt, Addressee, Tail, Unknown}
 use Rattle.layout.specs.declared.RecordType.{RecordType}
@@ -13,11 +14,6 @@ use Rattle.order.specs.declared.Stage.{Stage}
 use Rattle.amounts.specs.declared.Outcome.{Outcome}
 use Rattle.amounts.specs.declared.Outcome.the-variants.{Pass, Fault}
 use Rattle.order.specs.Stages.{stageAt, atStart, afterHead, afterTaxpayer, afterDomicile, afterLine, afterBalance, afterPayment, afterReceipt, afterAddressee, afterTail}
-
--- x is one of a list
-unfoldable pub among : ℕ → List ℕ → Bool
-among x [] = false
-among x (y ∷ ys) = cond (eqb x y) true (among x ys)
 
 -- "A delega is one record 10, one record 20, one or more sections, one record 50-01, then at most one 50-02 and, after a 50-02 only, at most one 50-03";
 -- "Sections stand in the order of the table, each at most once. A delega has section 17 alone or any of the other four"

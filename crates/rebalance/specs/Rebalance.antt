@@ -85,7 +85,7 @@ keptFields Addressee = delegaNumber ∷ []
 keptFields Tail = []
 keptFields Unknown = []
 
--- The checks that rebalancing leaves alone are 3, 4, 6, 7 of the kept fields, 8, 9, 14, 16 and 17, in the order of their numbers.
+-- The checks that rebalancing leaves alone are 3, 4, 6, 7 of the kept fields, 8, 9, 14, 16, 17 and 26, in the order of their numbers.
 unfoldable pub keptFault : List ℕ → State → List ℕ → Outcome
 keptFault name st r =
     first (charFault (firstBad r))

@@ -52,11 +52,11 @@ module _ (s : ℕ) (x : Sums) (r : List ℕ) where
   balance-read true = refl
   balance-read false = refl
 
--- 9 to 20
+-- 9 to 20 and 26
 amounts-read : (name : List ℕ) (st : State) (k : Kind) (r : List ℕ) → amountsOn name st k (valuesIn (fieldsOf k) r) r ≡ first (ownFault name st k r) (wrong (storedOf st k) r)
 unfolding amountsOn valuesIn headOn balanceOn paymentOn tailOn
 amounts-read name st Head r = sym (first-alone _)
-amounts-read name st Taxpayer r = refl
+amounts-read name st Taxpayer r = sym (first-alone _)
 amounts-read name st Domicile r = refl
 amounts-read name st (Line s) r = sym (first-alone _)
 amounts-read name st (Balance s) r = balance-read s (sectionSums st s) r (sectionAt s .totals)

@@ -1,4 +1,4 @@
--- Believed. The checks 3 to 20 of one record, in the order of their numbers.
+-- Believed. The checks 3 to 20 and 26 of one record, in the order of their numbers.
 use Prim.Native.Nat.{ℕ, _+_}
 use mathlib.Core.Bool.{cond}
 use mathlib.Core.List.{List, [], _∷_}
@@ -14,7 +14,7 @@ use Rattle.layout.specs.declared.Kind.{Kind}
 use Rattle.layout.specs.declared.Kind.the-variants.{Head, Taxpayer, Domicile, Line, Balance, Payment, Receipt, Addressee, Tail, Unknown}
 use Rattle.layout.specs.Sections.{sectionAt}
 use Rattle.layout.specs.Kinds.{typeIn, kindIn}
-use Rattle.layout.specs.Fields.{amountAt, delegaNumber, creationDate, supportName, fieldsOf, bytesOf, valueOf}
+use Rattle.layout.specs.Fields.{amountAt, delegaNumber, creationDate, taxCode, supportName, fieldsOf, bytesOf, valueOf}
 use Rattle.amounts.specs.declared.Sums.{Sums}
 use Rattle.rules.specs.declared.State.{State}
 use Rattle.amounts.specs.declared.Outcome.{Outcome}
@@ -24,6 +24,7 @@ use Rattle.order.specs.Order.{standing}
 use Rattle.amounts.specs.Amounts.{lineFault}
 use Rattle.amounts.specs.Dates.{dateRight}
 use Rattle.amounts.specs.Names.{nameRight, sameBytes}
+use Rattle.taxcode.specs.TaxCodes.{codeRight}
 use Rattle.rules.specs.Stored.{storedOf, wrong}
 
 -- 3, "a byte outside 32 to 126", at the "first such byte"
@@ -72,10 +73,14 @@ tailName name own = cond (sameBytes own name) Pass (Fault 16 20)
 unfoldable pub dateFault : ℕ → Outcome
 dateFault v = cond (dateRight v) Pass (Fault 17 14)
 
--- 9 of a line, 14 of a 50-01, 16 and 17 of the head, 16 of the tail: what is judged beside the stored fields. No kind of record has a stored field of a smaller number
+-- 26, a taxpayer's code that cannot exist, "at the field's start"
+unfoldable pub codeFault : List ℕ → Outcome
+codeFault code = cond (codeRight code) Pass (Fault 26 11)
+
+-- 9 of a line, 14 of a 50-01, 16 and 17 of the head, 16 of the tail, and of a 10 26, "after 8 in the same record": what is judged beside the stored fields. No kind of record has a stored field of a smaller number
 abbrev pub ownChecks : List ℕ → State → Kind → List ℕ → List Outcome
 ownChecks name st Head r = headName (bytesOf r supportName) ∷ dateFault (valueOf r creationDate) ∷ []
-ownChecks name st Taxpayer r = []
+ownChecks name st Taxpayer r = codeFault (bytesOf r taxCode) ∷ []
 ownChecks name st Domicile r = []
 ownChecks name st (Line s) r = lineFault s (valueOf r (amountAt (sectionAt s .debit))) (valueOf r (amountAt (sectionAt s .credit))) ∷ []
 ownChecks name st (Balance s) r = []

@@ -1,4 +1,4 @@
--- Serves inner functions. The checks 8 to 20 of a record whose numeric fields have been read: the same as in Checks, on the values in the order of the fields.
+-- Serves inner functions. The checks 8 to 20 and 26 of a record whose numeric fields have been read: the same as in Checks, on the values in the order of the fields.
 use Prim.Native.Nat.{ℕ, _+_, _-_}
 use mathlib.Core.Bool.{Bool, true, false, cond}
 use mathlib.Core.List.{List, [], _∷_, _++_, map}
@@ -8,7 +8,7 @@ use Rattle.layout.specs.declared.Kind.{Kind}
 use Rattle.layout.specs.declared.Kind.the-variants.{Head, Taxpayer, Domicile, Line, Balance, Payment, Receipt, Addressee, Tail, Unknown}
 use Rattle.layout.specs.declared.Field.{Field}
 use Rattle.layout.specs.Sections.{sectionAt}
-use Rattle.layout.specs.Fields.{fieldsOf, bytesOf, valueOf, supportName}
+use Rattle.layout.specs.Fields.{fieldsOf, bytesOf, valueOf, taxCode, supportName}
 use Rattle.amounts.specs.declared.Sums.{Sums}
 use Rattle.rules.specs.declared.State.{State}
 use Rattle.amounts.specs.declared.Outcome.{Outcome}
@@ -16,7 +16,7 @@ use Rattle.amounts.specs.declared.Outcome.the-variants.{Pass, Fault}
 use Rattle.amounts.specs.Outcomes.{first}
 use Rattle.amounts.specs.Amounts.{signOf, apart, finalOf, lineFault}
 use Rattle.rules.specs.Stored.{sectionSums}
-use Rattle.rules.specs.Checks.{numberFault, negativeFault, headName, tailName, dateFault}
+use Rattle.rules.specs.Checks.{numberFault, negativeFault, headName, tailName, dateFault, codeFault}
 
 -- the values of the fields of a list, in room for four
 unfoldable pub valuesIn : List Field → List ℕ → List ℕ
@@ -53,10 +53,10 @@ tailOn st vs =
     (cond (eqb (getD vs 2 0) (st .seen + 1)) (cond (eqb (getD vs 1 0) (st .money .total)) Pass (Fault 20 53)) (Fault 19 83))
     (Fault 18 46)
 
--- 9 to 20
+-- 9 to 20 and 26
 unfoldable pub amountsOn : List ℕ → State → Kind → List ℕ → List ℕ → Outcome
 amountsOn name st Head vs r = headOn (bytesOf r supportName) (getD vs 0 0)
-amountsOn name st Taxpayer vs r = Pass
+amountsOn name st Taxpayer vs r = codeFault (bytesOf r taxCode)
 amountsOn name st Domicile vs r = Pass
 amountsOn name st (Line s) vs r = lineFault s (getD vs 1 0) (getD vs 2 0)
 amountsOn name st (Balance s) vs r = balanceOn s (sectionSums st s) vs (getD r (sectionAt s .sign) 0)
@@ -66,6 +66,6 @@ amountsOn name st Addressee vs r = Pass
 amountsOn name st Tail vs r = first (tailName name (bytesOf r supportName)) (tailOn st vs)
 amountsOn name st Unknown vs r = Pass
 
--- 8 to 20
+-- 8 to 20 and 26
 unfoldable pub valuesOn : List ℕ → State → Kind → List ℕ → List ℕ → Outcome
 valuesOn name st k vs r = first (numberFault (st .deleghe) k (getD vs 0 0)) (amountsOn name st k vs r)

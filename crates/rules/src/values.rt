@@ -1,11 +1,11 @@
-// Checks 8 to 20, of a record whose numeric fields have been read.
+// Checks 8 to 20 and 26, of a record whose numeric fields have been read.
 ghost use mathlib.Core.Path.{_≡_};
 ghost use Prim.Native.Nat.{_<_};
 ghost use lib.ListN.{length, getD};
 ghost use Rattle.layout.specs.Sections.{sectionAt};
-ghost use Rattle.layout.specs.Fields.{bytesOf, supportName};
+ghost use Rattle.layout.specs.Fields.{bytesOf, taxCode, supportName};
 ghost use Rattle.amounts.specs.Outcomes.{first};
-ghost use Rattle.rules.specs.Checks.{carried, numberFault, tailName};
+ghost use Rattle.rules.specs.Checks.{carried, numberFault, tailName, codeFault};
 ghost use Rattle.rules.specs.Stored.{sectionSums};
 ghost use Rattle.rules.specs.Values.{headOn, balanceEnd, balanceOn, paymentOn, tailOn, amountsOn, valuesOn};
 use crate::State;
@@ -21,6 +21,7 @@ use amounts::sign_of;
 use layout::Kind;
 use layout::Part;
 use layout::Position;
+use taxcode::code_right;
 
 // Check 8, of a record that carries n after d records 10.
 pub fn number_fault(d: u64, k: Kind, n: u64) -> Outcome
@@ -162,6 +163,17 @@ pub fn head_record(rec: &[u8], date: u64) -> Outcome
     head_fault(&rec[Part::SUPPORT_NAME..Part::SUPPORT_NAME_END], date)
 }
 
+// Check 26, of a record 10.
+pub fn code_fault(rec: &[u8]) -> Outcome
+    requires { ⌜ length (now rec) ≡ 120 ⌝ }
+    ensures { λ r. ⌜ r ≡ codeFault (bytesOf (now (rec .entry)) taxCode) ⌝ }
+{
+    if code_right(&rec[Part::TAX_CODE..Part::TAX_CODE_END]) {
+        return Outcome::Pass;
+    }
+    Outcome::Fault(26, Position::TAX_CODE)
+}
+
 fn balance_record(st: State, s: usize, rec: &[u8], vs: [u64; 4]) -> Outcome
     requires { ⌜ length (now rec) ≡ 120 ⌝ }
     ensures { λ r. ⌜ r ≡ balanceOn s (sectionSums st s) vs (getD (now (rec .entry)) (sectionAt s .sign) 0) ⌝ }
@@ -181,7 +193,7 @@ fn tail_record(st: State, name: &[u8], rec: &[u8], vs: [u64; 4]) -> Outcome
     Outcome::Fault(16, Position::SUPPORT_NAME)
 }
 
-// Checks 9 to 20, of a record of kind k whose numeric fields hold the values vs.
+// Checks 9 to 20 and 26, of a record of kind k whose numeric fields hold the values vs.
 fn amounts_fault(st: State, name: &[u8], k: Kind, rec: &[u8], vs: [u64; 4]) -> Outcome
     requires { ⌜ (length (now rec) ≡ 120) × (st .seen < 1000) ⌝ }
     ensures { λ r. ⌜ r ≡ amountsOn (now (name .entry)) st k vs (now (rec .entry)) ⌝ }
@@ -191,7 +203,7 @@ fn amounts_fault(st: State, name: &[u8], k: Kind, rec: &[u8], vs: [u64; 4]) -> O
     let all = delega.all;
     match k {
         Kind::Head => head_record(rec, vs[0]),
-        Kind::Taxpayer => Outcome::Pass,
+        Kind::Taxpayer => code_fault(rec),
         Kind::Domicile => Outcome::Pass,
         Kind::Line(s) => line_fault(s, vs[1], vs[2]),
         Kind::Balance(s) => balance_record(st, s, rec, vs),
@@ -203,7 +215,7 @@ fn amounts_fault(st: State, name: &[u8], k: Kind, rec: &[u8], vs: [u64; 4]) -> O
     }
 }
 
-// Checks 8 to 20.
+// Checks 8 to 20 and 26.
 pub fn values_fault(st: State, name: &[u8], k: Kind, rec: &[u8], vs: [u64; 4]) -> Outcome
     requires { ⌜ (length (now rec) ≡ 120) × (st .seen < 1000) × (st .deleghe < 1000) ⌝ }
     ensures { λ r. ⌜ r ≡ valuesOn (now (name .entry)) st k vs (now (rec .entry)) ⌝ }

@@ -16,4 +16,6 @@ pub mod AsJudged
 pub mod Settled
 pub mod Leniently
 pub mod Told
+pub mod RecordRefused
 pub mod VeryCharacter
+pub mod CodeKeyed

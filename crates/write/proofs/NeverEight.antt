@@ -15,7 +15,7 @@ use Rattle.layout.specs.declared.Kind.the-variants.{Head, Taxpayer, Domicile, L
 use Rattle.layout.specs.Kinds.{kindIn, numbered}
 use Rattle.layout.specs.Fields.{delegaNumber, supportName, bytesOf, valueOf}
 use Rattle.amounts.specs.declared.Outcome.the-variants.{Pass}
-use Rattle.order.specs.Order.{among}
+use Rattle.text.specs.Among.{among}
 use Rattle.rules.specs.declared.State.{State}
 use Rattle.rules.specs.State.{startState}
 use Rattle.rules.specs.Stored.{storedOf}
@@ -36,7 +36,8 @@ use Rattle.sheet.proofs.FilledRecords.{slot-storing, slot-laid, length-number, 
 use Rattle.write.specs.declared.Writing.the-variants.{Refused}
 use Rattle.write.specs.Writing.{nameIn, entryFault, writingOf}
 use Rattle.write.specs.WhenRefused.{entriesIn, NoEntryFault, FirstEntryFault, recordNumbers, sheetNumbers, Tried, WhyRefused, NotASheet, ShortRoom, ManyRecords, FaultyRecord, NoFit}
-use Rattle.write.proofs.FaultNumbers.{In, passed, has, in-fault, in-more, entry-in, entry-number-right}
+use Rattle.judge.proofs.OwnNumbers.{In, none, has, in-fault, in-more}
+use Rattle.write.proofs.FaultNumbers.{entry-in, entry-number-right}
 use Rattle.write.proofs.Refusals.{refused-why}
 use Rattle.write.proofs.Mended.{passes-kind}
 use Rattle.write.proofs.WrittenFlow.{entries-in, name-length}
@@ -96,7 +97,7 @@ module _ (name : List ℕ) (n : length name ≡ 20) where
   pub tail-number : (st : State) (d : ℕ) (r : List ℕ) → length r ≡ 120 → In (3 ∷ 4 ∷ 6 ∷ 7 ∷ []) (entryFault name st (entry Tail d r))
   unfolding numberFault tailName
   tail-number st d r l =
-      entry-in [] name st (entry Tail d r) (λ q. rw (slot-kind tail (filled name (entry Tail d r)) q, name-in-tail d r l, same-itself name) passed)
+      entry-in [] name st (entry Tail d r) (λ q. rw (slot-kind tail (filled name (entry Tail d r)) q, name-in-tail d r l, same-itself name) none)
 
 -- More records begin more deleghe, or as many.
 next-grows : (d : ℕ) (k : Kind) → d ≤ nextDeleghe d k

@@ -9,7 +9,7 @@ use borrow.Author.Tests.{ltb-true, ltb-false, lt-ltb, le-ltb}
 use lib.Dec.{ltb}
 use lib.ListN.{length}
 use Rattle.amounts.specs.declared.Outcome.the-variants.{Fault}
-use Rattle.order.specs.Order.{among}
+use Rattle.text.specs.Among.{among}
 use Rattle.rules.specs.declared.State.{State}
 use Rattle.rules.specs.State.{startState}
 use Rattle.judge.specs.Refusal.{Refusal, refusal, noRefusal}
@@ -26,7 +26,8 @@ use Rattle.write.specs.declared.Writing.the-variants.{Written, Refused}
 use Rattle.write.specs.Writing.{refusalWritten, nameIn, entryFault, entriesFault, afterFaults, triedIn, answerTo, writingOf, entriesRead, roomAfter}
 use Rattle.write.specs.WhenRefused.{entriesIn, FirstEntryFault, Tried, WhyRefused, NotASheet, ShortRoom, ManyRecords, FaultyRecord, NoFit, MayBeWritten}
 use Rattle.write.proofs.FirstEntry.{each-passes, all-pass, first-told, told-first}
-use Rattle.write.proofs.FaultNumbers.{in-fault, entry-number}
+use Rattle.judge.proofs.OwnNumbers.{in-fault}
+use Rattle.write.proofs.FaultNumbers.{entry-number}
 
 -- No fault of a record has the number 0.
 fault-above : (name : List ℕ) (st : State) (e : Entry) {n p : ℕ} → entryFault name st e ≡ Fault n p → n ≡ 0 → ⊥

@@ -52,7 +52,7 @@ pub record FirstEntryFault (name : List ℕ) (st : State) (es : List Entry) (n k
 
 -- The numbers that a record to be written can be refused with.
 abbrev pub recordNumbers : List ℕ
-recordNumbers = 3 ∷ 4 ∷ 6 ∷ 7 ∷ 9 ∷ 14 ∷ 16 ∷ 17 ∷ []
+recordNumbers = 3 ∷ 4 ∷ 6 ∷ 7 ∷ 9 ∷ 14 ∷ 16 ∷ 17 ∷ 26 ∷ []
 
 -- The numbers that a sheet can be refused with.
 abbrev pub sheetNumbers : List ℕ

@@ -17,6 +17,9 @@ head-record-requires c κs = search needs
 enum-told-2 : tie.Need-enum-told-2
 enum-told-2 c = search needs
 
+code-fault-requires : tie.Need-code-fault-requires
+code-fault-requires c κs = search needs
+
 enum-told-3 : tie.Need-enum-told-3
 enum-told-3 c = search needs
 
@@ -58,7 +61,7 @@ unfolding headOn
 returns c = c .head-record .ensures ∙ rw (c .before .first-value .ensures, c .before .before .enum-told .given .1)
 
 returns-2 : tie.Need-returns-2
-returns-2 c = rw (c .enum-told2 .given .1)
+returns-2 c = rw (c .before .enum-told2 .given .1) (c .code-fault .ensures)
 
 returns-3 : tie.Need-returns-3
 returns-3 c = rw (c .enum-told3 .given .1)
@@ -92,6 +95,7 @@ own-fault-spec =
     first-value-requires
     head-record-requires
     enum-told-2
+    code-fault-requires
     enum-told-3
     enum-known-kind
     line-sums-requires

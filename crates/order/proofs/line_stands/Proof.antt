@@ -1,4 +1,5 @@
-use Rattle.order.specs.Order.{stands, sectionStands, typeStands, full, standing, among}
+use Rattle.text.specs.Among.{among}
+use Rattle.order.specs.Order.{stands, sectionStands, typeStands, full, standing}
 use borrow.Author.Tests.{eq-eqb, ne-eqb, lt-ltb, le-ltb, le-leb, lt-leb}
 use Rattle.order.proofs.line_stands.Statement.{statement}
 use Rattle.order.proofs.line_stands.Tie as tie

@@ -1,5 +1,6 @@
 use mathlib.Core.Path.{_∙_}
-use Rattle.order.specs.Order.{stands, sectionStands, typeStands, full, standing, among}
+use Rattle.text.specs.Among.{among}
+use Rattle.order.specs.Order.{stands, sectionStands, typeStands, full, standing}
 use borrow.Author.Tests.{eq-eqb, ne-eqb, lt-ltb, le-ltb, le-leb, lt-leb}
 use borrow.Author.Needs.{needs}
 use Rattle.order.proofs.may_stand.Statement.{statement}

@@ -1,5 +1,6 @@
 use Rattle.order.proofs.Standing.{or-false, forty, fifty}
-use Rattle.order.specs.Order.{stands, sectionStands, typeStands, full, standing, among}
+use Rattle.text.specs.Among.{among}
+use Rattle.order.specs.Order.{stands, sectionStands, typeStands, full, standing}
 use borrow.Author.Tests.{eq-eqb, ne-eqb, lt-ltb, le-ltb, le-leb, lt-leb}
 use Rattle.order.proofs.one_of.Statement.{statement}
 use Rattle.order.proofs.one_of.Tie as tie

@@ -1,4 +1,5 @@
-use Rattle.order.specs.Order.{stands, sectionStands, typeStands, full, standing, among}
+use Rattle.text.specs.Among.{among}
+use Rattle.order.specs.Order.{stands, sectionStands, typeStands, full, standing}
 use borrow.Author.Needs.{needs}
 use Rattle.order.proofs.section_stands.Statement.{statement}
 use Rattle.order.proofs.section_stands.Tie as tie

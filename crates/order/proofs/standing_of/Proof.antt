@@ -1,4 +1,5 @@
-use Rattle.order.specs.Order.{stands, sectionStands, typeStands, full, standing, among}
+use Rattle.text.specs.Among.{among}
+use Rattle.order.specs.Order.{stands, sectionStands, typeStands, full, standing}
 use borrow.Author.Needs.{needs}
 use Rattle.order.proofs.standing_of.Statement.{statement}
 use Rattle.order.proofs.standing_of.Tie as tie

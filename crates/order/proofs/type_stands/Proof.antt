@@ -1,4 +1,5 @@
-use Rattle.order.specs.Order.{stands, sectionStands, typeStands, full, standing, among}
+use Rattle.text.specs.Among.{among}
+use Rattle.order.specs.Order.{stands, sectionStands, typeStands, full, standing}
 use Rattle.order.proofs.Standing.{or-false, forty, fifty}
 use borrow.Author.Needs.{needs}
 use Rattle.order.proofs.type_stands.Statement.{statement}

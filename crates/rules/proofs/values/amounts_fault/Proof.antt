@@ -15,6 +15,9 @@ head-record-requires c κs = search needs
 enum-told-2 : tie.Need-enum-told-2
 enum-told-2 c = search needs
 
+code-fault-requires : tie.Need-code-fault-requires
+code-fault-requires c κs = search needs
+
 enum-told-3 : tie.Need-enum-told-3
 enum-told-3 c = search needs
 
@@ -66,7 +69,7 @@ returns c = rw (c .before .enum-told .given .1) (c .head-record .ensures)
 
 returns-2 : tie.Need-returns-2
 unfolding amountsOn
-returns-2 c = rw (c .enum-told2 .given .1)
+returns-2 c = rw (c .before .enum-told2 .given .1) (c .code-fault .ensures)
 
 returns-3 : tie.Need-returns-3
 unfolding amountsOn
@@ -108,6 +111,7 @@ amounts-fault-spec =
     array-read-head-record
     head-record-requires
     enum-told-2
+    code-fault-requires
     enum-told-3
     enum-known-k
     array-read-line-fault
