@@ -123,15 +123,15 @@ pub fn spoil(rng: &mut Rng, record: &mut [u8]) {
     }
 }
 
-/// A bad byte, another type, which may not stand where a record 10 may, or
-/// another number.
+/// A bad byte, another type, which may not stand where a record 10 may, even if
+/// both its characters are changed, one after the other, or another number.
 pub fn spoil_otherwise(rng: &mut Rng, record: &mut [u8]) {
     match rng.below(4) {
         0 => {
             let place = if rng.one_in(2) { CODE - 1 + rng.place(CODE_WIDTH) } else { rng.place(RECORD) };
             record[place] = rng.pick(&[0, 10, 31, 127, 128, 225, 255]);
         }
-        1 => record[TYPE - 1 + rng.place(2)] = rng.pick(b"2346 FE"),
+        1 => record[TYPE - 1 + rng.place(2)] = rng.pick(b"2346 Fe"),
         2 => record[DELEGA - 1 + rng.place(COUNT)] = rng.pick(b" /:Ox"),
         _ => record[DELEGA - 1 + rng.place(COUNT)] = b'0' + rng.below(10) as u8,
     }

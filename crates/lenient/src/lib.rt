@@ -109,7 +109,7 @@ fn own_fault(st: State, name: &[u8], rec: &[u8], kind: Kind) -> Outcome
     let all = delega.all;
     match kind {
         Kind::Head => rules::head_record(rec, first_value(rec, kind)),
-        Kind::Taxpayer => rules::code_fault(rec),
+        Kind::Taxpayer => rules::code_fault(rules::has_code(rec)),
         Kind::Domicile => Outcome::Pass,
         Kind::Line(s) => {
             let t = records::line_sums(rec, kind);

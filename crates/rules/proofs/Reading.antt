@@ -17,8 +17,8 @@ use Rattle.amounts.specs.declared.Outcome.{Outcome}
 use Rattle.amounts.specs.declared.Outcome.the-variants.{Pass, Fault}
 use Rattle.amounts.specs.Outcomes.{first}
 use Rattle.rules.specs.Stored.{Value, storedOf, storedBalance, sectionSums, wrong}
-use Rattle.rules.specs.Checks.{numberFault, ownFault}
-use Rattle.rules.specs.Values.{valuesIn, balanceOn, balanceEnd, paymentOn, headOn, tailOn, amountsOn, valuesOn}
+use Rattle.rules.specs.Checks.{numberFault, codeFault, ownFault}
+use Rattle.rules.specs.Values.{valuesIn, balanceOn, balanceEnd, paymentOn, headOn, tailOn, codeOn, amountsOn, valuesOn}
 use Rattle.rules.specs.Step.{nextOf, lineSums, next}
 
 -- nothing is stored
@@ -54,7 +54,7 @@ module _ (s : ℕ) (x : Sums) (r : List ℕ) where
 
 -- 9 to 20 and 26
 amounts-read : (name : List ℕ) (st : State) (k : Kind) (r : List ℕ) → amountsOn name st k (valuesIn (fieldsOf k) r) r ≡ first (ownFault name st k r) (wrong (storedOf st k) r)
-unfolding amountsOn valuesIn headOn balanceOn paymentOn tailOn
+unfolding amountsOn valuesIn headOn balanceOn paymentOn tailOn codeOn codeFault
 amounts-read name st Head r = sym (first-alone _)
 amounts-read name st Taxpayer r = sym (first-alone _)
 amounts-read name st Domicile r = refl
@@ -80,7 +80,7 @@ number-read d Addressee r = refl
 number-read d Tail r = refl
 number-read d Unknown r = refl
 
--- 8 to 20
+-- 8 to 20 and 26
 pub values-read : (name : List ℕ) (st : State) (k : Kind) (r : List ℕ) →
     valuesOn name st k (valuesIn (fieldsOf k) r) r ≡ first (numberFault (st .deleghe) k (valueOf r delegaNumber)) (first (ownFault name st k r) (wrong (storedOf st k) r))
 unfolding valuesOn

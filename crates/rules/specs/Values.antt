@@ -15,8 +15,9 @@ use Rattle.amounts.specs.declared.Outcome.{Outcome}
 use Rattle.amounts.specs.declared.Outcome.the-variants.{Pass, Fault}
 use Rattle.amounts.specs.Outcomes.{first}
 use Rattle.amounts.specs.Amounts.{signOf, apart, finalOf, lineFault}
+use Rattle.taxcode.specs.TaxCodes.{codeRight}
 use Rattle.rules.specs.Stored.{sectionSums}
-use Rattle.rules.specs.Checks.{numberFault, negativeFault, headName, tailName, dateFault, codeFault}
+use Rattle.rules.specs.Checks.{numberFault, negativeFault, headName, tailName, dateFault}
 
 -- the values of the fields of a list, in room for four
 unfoldable pub valuesIn : List Field → List ℕ → List ℕ
@@ -53,10 +54,14 @@ tailOn st vs =
     (cond (eqb (getD vs 2 0) (st .seen + 1)) (cond (eqb (getD vs 1 0) (st .money .total)) Pass (Fault 20 53)) (Fault 19 83))
     (Fault 18 46)
 
+-- 26, of a code that can exist or not
+unfoldable pub codeOn : Bool → Outcome
+codeOn right = cond right Pass (Fault 26 11)
+
 -- 9 to 20 and 26
 unfoldable pub amountsOn : List ℕ → State → Kind → List ℕ → List ℕ → Outcome
 amountsOn name st Head vs r = headOn (bytesOf r supportName) (getD vs 0 0)
-amountsOn name st Taxpayer vs r = codeFault (bytesOf r taxCode)
+amountsOn name st Taxpayer vs r = codeOn (codeRight (bytesOf r taxCode))
 amountsOn name st Domicile vs r = Pass
 amountsOn name st (Line s) vs r = lineFault s (getD vs 1 0) (getD vs 2 0)
 amountsOn name st (Balance s) vs r = balanceOn s (sectionSums st s) vs (getD r (sectionAt s .sign) 0)

@@ -9,6 +9,7 @@ use order::Stage;
 pub use step::next_deleghe;
 pub use step::next_state;
 pub use values::code_fault;
+pub use values::has_code;
 pub use values::head_record;
 pub use values::number_fault;
 pub use values::section_sums;

@@ -5,9 +5,10 @@ ghost use lib.ListN.{length, getD};
 ghost use Rattle.layout.specs.Sections.{sectionAt};
 ghost use Rattle.layout.specs.Fields.{bytesOf, taxCode, supportName};
 ghost use Rattle.amounts.specs.Outcomes.{first};
-ghost use Rattle.rules.specs.Checks.{carried, numberFault, tailName, codeFault};
+ghost use Rattle.taxcode.specs.TaxCodes.{codeRight};
+ghost use Rattle.rules.specs.Checks.{carried, numberFault, tailName};
 ghost use Rattle.rules.specs.Stored.{sectionSums};
-ghost use Rattle.rules.specs.Values.{headOn, balanceEnd, balanceOn, paymentOn, tailOn, amountsOn, valuesOn};
+ghost use Rattle.rules.specs.Values.{headOn, balanceEnd, balanceOn, paymentOn, tailOn, codeOn, amountsOn, valuesOn};
 use crate::State;
 use amounts::Outcome;
 use amounts::Sums;
@@ -163,12 +164,19 @@ pub fn head_record(rec: &[u8], date: u64) -> Outcome
     head_fault(&rec[Part::SUPPORT_NAME..Part::SUPPORT_NAME_END], date)
 }
 
-// Check 26, of a record 10.
-pub fn code_fault(rec: &[u8]) -> Outcome
+// Whether the code of a record 10 can exist. It has two callers and answers a bool, so that the judge's loop keeps its outcomes in registers.
+pub fn has_code(rec: &[u8]) -> bool
     requires { ⌜ length (now rec) ≡ 120 ⌝ }
-    ensures { λ r. ⌜ r ≡ codeFault (bytesOf (now (rec .entry)) taxCode) ⌝ }
+    ensures { λ r. ⌜ r ≡ codeRight (bytesOf (now (rec .entry)) taxCode) ⌝ }
 {
-    if code_right(&rec[Part::TAX_CODE..Part::TAX_CODE_END]) {
+    code_right(&rec[Part::TAX_CODE..Part::TAX_CODE_END])
+}
+
+// Check 26, of a record 10 whose code can exist or not.
+pub fn code_fault(right: bool) -> Outcome
+    ensures { λ r. ⌜ r ≡ codeOn right ⌝ }
+{
+    if right {
         return Outcome::Pass;
     }
     Outcome::Fault(26, Position::TAX_CODE)
@@ -203,7 +211,7 @@ fn amounts_fault(st: State, name: &[u8], k: Kind, rec: &[u8], vs: [u64; 4]) -> O
     let all = delega.all;
     match k {
         Kind::Head => head_record(rec, vs[0]),
-        Kind::Taxpayer => code_fault(rec),
+        Kind::Taxpayer => code_fault(has_code(rec)),
         Kind::Domicile => Outcome::Pass,
         Kind::Line(s) => line_fault(s, vs[1], vs[2]),
         Kind::Balance(s) => balance_record(st, s, rec, vs),

@@ -1,6 +1,7 @@
 -- `lenient::own_fault` meets its contract, kind by kind.
 use mathlib.Core.Path.{_∙_}
-use Rattle.rules.specs.Values.{headOn}
+use Rattle.rules.specs.Checks.{codeFault}
+use Rattle.rules.specs.Values.{headOn, codeOn}
 use borrow.Author.Needs.{needs}
 use Rattle.lenient.proofs.own_fault.Statement.{statement}
 use Rattle.lenient.proofs.own_fault.Tie as tie
@@ -16,6 +17,9 @@ head-record-requires c κs = search needs
 
 enum-told-2 : tie.Need-enum-told-2
 enum-told-2 c = search needs
+
+has-code-requires : tie.Need-has-code-requires
+has-code-requires c κs = search needs
 
 code-fault-requires : tie.Need-code-fault-requires
 code-fault-requires c κs = search needs
@@ -61,7 +65,8 @@ unfolding headOn
 returns c = c .head-record .ensures ∙ rw (c .before .first-value .ensures, c .before .before .enum-told .given .1)
 
 returns-2 : tie.Need-returns-2
-returns-2 c = rw (c .before .enum-told2 .given .1) (c .code-fault .ensures)
+unfolding codeOn codeFault
+returns-2 c = rw (c .before .before .enum-told2 .given .1, ← (c .before .has-code .ensures)) (c .code-fault .ensures)
 
 returns-3 : tie.Need-returns-3
 returns-3 c = rw (c .enum-told3 .given .1)
@@ -95,6 +100,7 @@ own-fault-spec =
     first-value-requires
     head-record-requires
     enum-told-2
+    has-code-requires
     code-fault-requires
     enum-told-3
     enum-known-kind

@@ -15,6 +15,9 @@ head-record-requires c κs = search needs
 enum-told-2 : tie.Need-enum-told-2
 enum-told-2 c = search needs
 
+has-code-requires : tie.Need-has-code-requires
+has-code-requires c κs = search needs
+
 code-fault-requires : tie.Need-code-fault-requires
 code-fault-requires c κs = search needs
 
@@ -69,7 +72,7 @@ returns c = rw (c .before .enum-told .given .1) (c .head-record .ensures)
 
 returns-2 : tie.Need-returns-2
 unfolding amountsOn
-returns-2 c = rw (c .before .enum-told2 .given .1) (c .code-fault .ensures)
+returns-2 c = rw (c .before .before .enum-told2 .given .1, ← (c .before .has-code .ensures)) (c .code-fault .ensures)
 
 returns-3 : tie.Need-returns-3
 unfolding amountsOn
@@ -111,6 +114,7 @@ amounts-fault-spec =
     array-read-head-record
     head-record-requires
     enum-told-2
+    has-code-requires
     code-fault-requires
     enum-told-3
     enum-known-k
