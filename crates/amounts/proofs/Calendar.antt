@@ -6,7 +6,7 @@ use mathlib.Core.Bool.{Bool, true, false, cond}
 use mathlib.Core.List.{List, [], _∷_}
 use lib.Dec.{eqb}
 use lib.ListN.{getD}
-use Rattle.amounts.proofs.Examples.{every}
+use Rattle.text.proofs.Tests.{every}
 use Rattle.amounts.specs.Dates.{leap, months, daysIn, within, dayExists, dateRight}
 
 -- six digits are a date, or they are none

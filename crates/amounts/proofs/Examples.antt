@@ -7,6 +7,7 @@ use lib.Dec.{eqb}
 use Rattle.text.specs.declared.Digits.{Digits}
 use Rattle.text.specs.declared.Digits.the-variants.{Number, NonDigit, TooLong}
 use Rattle.text.specs.Numbers.{numberFrom, readNumber}
+use Rattle.text.proofs.Tests.{alike, every}
 use Rattle.layout.specs.Sections.{sectionAt}
 use Rattle.amounts.specs.Amounts.{signOf, apart, creditRight, lineRight}
 
@@ -16,10 +17,6 @@ pub data Fact : Type 0 where
   field : (text : List ℕ) (amount : ℕ) → Fact
   no-field : (text : List ℕ) → Fact
   line : (section debit credit : ℕ) (allowed : Bool) → Fact
-
-abbrev same : Bool → Bool → Bool
-same true b = b
-same false b = cond b false true
 
 abbrev is-number : Digits → ℕ → Bool
 is-number (Number n) v = eqb n v
@@ -36,7 +33,7 @@ abbrev holds : Fact → Bool
 holds (sums d c s b) = cond (eqb (signOf d c) s) (eqb (apart d c) b) false
 holds (field t v) = is-number (readNumber t) v
 holds (no-field t) = no-number (readNumber t)
-holds (line s d c a) = same (lineRight s d c) a
+holds (line s d c a) = alike (lineRight s d c) a
 
 -- the sections by the order of the table: Regioni is the third, section 17 the fifth; P is 80 and N is 78
 pub facts : List Fact
@@ -52,11 +49,6 @@ facts =
     ∷ line 2 5 5 true
     ∷ line 4 100 1 false
     ∷ []
-
--- every one of a list passes a test
-abbrev pub every : {A : Type 0} → (A → Bool) → List A → Bool
-every p [] = true
-every p (x ∷ xs) = cond (p x) (every p xs) false
 
 pub starred-facts : every holds facts ≡ true
 unfolding facts signOf apart lineRight creditRight readNumber numberFrom sectionAt

@@ -24,6 +24,7 @@ use Rattle.correct.proofs.Split.{line-found, has-line}
 use Rattle.correct.proofs.Undone.{tried-debit, tried-credit, tried-wrong, tried-weighed}
 use Rattle.correct.proofs.OwnNegative.{only-own-delega-negative}
 use Rattle.correct.proofs.OwnOverflow.{only-these-can-overflow}
+use Rattle.text.proofs.Tests.{untrue}
 
 -- An amount that is not large has at most fifteen digits.
 small : (v : ℕ) → (Large v → ⊥) → v ≤ 999_999_999_999_999
@@ -33,11 +34,7 @@ small v h = go (decLt 999_999_999_999_999 v)
     go (yes l) = absurd (h l)
     go (no l) = omega arith
 
--- A test that does not hold is false, and one that is not false holds.
-fails : (b : Bool) → (b ≡ true → ⊥) → b ≡ false
-fails true h = absurd (h refl)
-fails false h = refl
-
+-- A test that is not false holds.
 holds : (b : Bool) → (b ≡ false → ⊥) → b ≡ true
 holds true h = refl
 holds false h = absurd (h refl)
@@ -99,7 +96,7 @@ module _ (f : List ℕ) (d subtype n x y : ℕ) where
       negative-is = only-own-delega-negative f d subtype n a h x y
 
       positive-is : (Negative d (newRecords f d subtype n x y) → ⊥) → anyNegative startState (newRecords f d subtype n x y) ≡ false
-      positive-is p = fails _ (λ e. p (negative-is .0 e))
+      positive-is p = untrue _ (λ e. p (negative-is .0 e))
 
       overflow-is : anyNegative startState (newRecords f d subtype n x y) ≡ false → (allFit startState (newRecords f d subtype n x y) ≡ false) ↔ Overflows d s (newRecords f d subtype n x y)
       overflow-is p = only-these-can-overflow f d subtype n a h x y p

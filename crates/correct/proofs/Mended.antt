@@ -22,7 +22,8 @@ use Rattle.rules.specs.Checks.{charFault, badFields, negativeFault, ownFault}
 use Rattle.order.specs.Order.{nextStage}
 use Rattle.rules.specs.Step.{nextDeleghe, nextOf, next}
 use Rattle.rebalance.specs.Rebalance.{fitsAll, allFit, keptFault, Mendable}
-use Rattle.rebalance.proofs.Written.{both-true, digits-pass}
+use Rattle.text.proofs.Tests.{both-true}
+use Rattle.rebalance.proofs.Written.{digits-pass}
 use Rattle.layout.proofs.InTable.{line-within}
 use Rattle.judge.proofs.ChecksInOrder.{allowed-of}
 use Rattle.rebalance.proofs.Emit.{kept-each, kept-all}

@@ -27,7 +27,7 @@ use Rattle.delega.proofs.Moves.{Standing, Each}
 use Rattle.delega.proofs.OwnRecords.{payment-delega, atClosing}
 use Rattle.delega.proofs.Held.{closing}
 use Rattle.rebalance.specs.Rebalance.{fitsAll, allFit}
-use Rattle.rebalance.proofs.Written.{both-true}
+use Rattle.text.proofs.Tests.{both-true}
 use Rattle.rebalance.proofs.Fitting.{alone, fits-payment, fits-sum, tail-fit}
 use Rattle.correct.proofs.Mended.{Near}
 use Rattle.correct.proofs.InOrder.{near-next}

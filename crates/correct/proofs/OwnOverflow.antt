@@ -24,7 +24,7 @@ use Rattle.delega.specs.PlainDelega as Delega
 use Rattle.delega.proofs.Held.{closing, closing-lines, closing-section}
 use Rattle.rebalance.specs.Rebalance.{fitsAll, allFit}
 use Rattle.rebalance.specs.Weigh.{anyNegative}
-use Rattle.rebalance.proofs.Written.{both-true}
+use Rattle.text.proofs.Tests.{both-true}
 use Rattle.rebalance.proofs.Fitting.{fits-plain, fits-debit, fits-credit, fits-balance}
 use Rattle.rebalance.proofs.Rebalanced.{mendable-fits}
 use Rattle.rebalance.proofs.Judged.{accepted-mends}

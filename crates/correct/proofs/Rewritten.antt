@@ -18,7 +18,8 @@ use Rattle.rules.specs.declared.State.{State}
 use Rattle.rules.specs.Stored.{Stored, Value, storedBalance, sectionSums, storedOf}
 use Rattle.rules.specs.Step.{lineSums, next}
 use Rattle.rebalance.specs.Rebalance.{startOf, widthOf, textOf, putAll, emit, rebalanced, allFit, clear, Sized}
-use Rattle.rebalance.proofs.Written.{both-true, length-text, put, laid}
+use Rattle.text.proofs.Tests.{both-true}
+use Rattle.rebalance.proofs.Written.{length-text, put, laid}
 use Rattle.rebalance.proofs.Columns.{Storing, plain, balance, payment, tail, storing, columns}
 use Rattle.rebalance.proofs.Emit.{emit-kind}
 use Rattle.rebalance.specs.Weigh.{anyNegative}

@@ -23,7 +23,7 @@ use Rattle.judge.specs.declared.Verdict.the-variants.{Accepted}
 use Rattle.judge.specs.Flow.{recordsOf, judged}
 use Rattle.judge.specs.Plain.{stateAfter}
 use Rattle.rebalance.specs.Rebalance.{Sized, flat}
-use Rattle.rebalance.proofs.Written.{both-true}
+use Rattle.text.proofs.Tests.{both-true}
 use Rattle.layout.proofs.InTable.{line-within}
 use Rattle.rebalance.proofs.Flat.{length-flat, records-flat, flat-append}
 use Rattle.rebalance.proofs.Judged.{sized-records, flat-records}

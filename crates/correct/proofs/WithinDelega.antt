@@ -18,7 +18,7 @@ use Rattle.order.specs.Order.{stands}
 use Rattle.rules.specs.Stored.{storedOf}
 use Rattle.order.specs.Order.{nextStage}
 use Rattle.delega.proofs.Moves.{Standing, Each}
-use Rattle.rebalance.proofs.Written.{both-true}
+use Rattle.text.proofs.Tests.{both-true}
 
 -- Behind a line the section goes on or has its balance; behind a balance a later section begins or the 50-01 stands.
 pub data Follows (p : Stage) : Kind → Type 0 where

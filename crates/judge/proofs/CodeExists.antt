@@ -29,6 +29,7 @@ use Rattle.judge.specs.Part.{recordAt}
 use Rattle.judge.specs.Plain.{stateAfter, NoFault, NoSuchCode, FirstFault, FaultAt}
 use Rattle.judge.proofs.Accepted.{stands-of, right-of, carried-number, accepted-means-no-fault}
 use Rattle.judge.proofs.Counts.{deleghe-after, taxpayer-is-ten}
+use Rattle.judge.proofs.PlainSums.{cond-true}
 use Rattle.judge.proofs.FirstFault.{record-fault, refused-exactly}
 use Rattle.judge.proofs.OwnNumbers.{fault-behind, twenty-six-is-taxpayer}
 
@@ -48,11 +49,7 @@ code-twenty-six name st r {q} e = go (codeRight (take 16 (drop 10 r))) refl e
 
 code-right-of : (name : List ℕ) (st : State) (r : List ℕ) → ownFault name st Taxpayer r ≡ Pass → codeRight (take 16 (drop 10 r)) ≡ true
 unfolding codeFault
-code-right-of name st r e = go (codeRight (take 16 (drop 10 r))) e
-  where
-    go : (b : Bool) → cond b Pass (Fault 26 11) ≡ Pass → b ≡ true
-    go true e = refl
-    go false e = cc
+code-right-of name st r e = cond-true (codeRight (take 16 (drop 10 r))) 26 11 e
 
 no-record : typeIn [] ≡ T10 → ⊥
 unfolding typeOf same

@@ -31,6 +31,7 @@ use Rattle.judge.specs.Part.{recordAt}
 use Rattle.judge.specs.Plain.{stateAfter, NoFault, Whole, NoSuchDay, FirstFault, FaultAt}
 use Rattle.judge.proofs.Records.{length-chunks, record-number}
 use Rattle.judge.proofs.Accepted.{stands-of, right-of, head-stands, accepted-means-no-fault}
+use Rattle.judge.proofs.PlainSums.{cond-true}
 use Rattle.judge.proofs.FirstFault.{record-fault, refused-exactly}
 use Rattle.judge.proofs.OwnNumbers.{fault-behind, seventeen-is-head}
 
@@ -96,11 +97,7 @@ accepted-date s e =
     own-date (headNameOf s) (recordAt s 1) (rw (head-stands (startState .stage) (kindIn (recordAt s 1)) refl (y .ordered)) at (y .own))
   where
     own-date : (name r : List ℕ) → ownFault name startState Head r ≡ Pass → dateRight (valueOf r creationDate) ≡ true
-    own-date name r e = go (dateRight (valueOf r creationDate)) (first-pass (headName (bytesOf r supportName)) _ e .1)
-      where
-        go : (b : Bool) → cond b Pass (Fault 17 14) ≡ Pass → b ≡ true
-        go true e = refl
-        go false e = cc
+    own-date name r e = cond-true (dateRight (valueOf r creationDate)) 17 14 (first-pass (headName (bytesOf r supportName)) _ e .1)
 
 -- 17 is the refusal of a flow exactly where its head has no fault of a smaller number and its date is none, and it is at 1, 14
 pub seventeen-exactly : (s : List ℕ) (k p : ℕ) → (refusalOf (judged s .verdict) ≡ refusal 17 k p) ↔ ((k ≡ 1) × (p ≡ 14) × NoSuchDay s)

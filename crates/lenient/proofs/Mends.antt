@@ -18,7 +18,7 @@ use Rattle.rules.specs.Stored.{storedOf}
 use Rattle.rules.specs.Step.{next}
 use Rattle.judge.specs.Plain.{NoFault, stateAfter}
 use Rattle.rebalance.specs.Rebalance.{keptFault, fitsAll, allFit, Sized, Mendable}
-use Rattle.rebalance.proofs.Written.{both-true}
+use Rattle.text.proofs.Tests.{both-true}
 use Rattle.rebalance.proofs.Emit.{kept-each, fault-kept}
 use Rattle.lenient.specs.declared.Lenient.{Lenient}
 use Rattle.lenient.specs.declared.Lenient.the-variants.{Passed, Refused}

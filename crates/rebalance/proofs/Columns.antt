@@ -29,7 +29,8 @@ use Rattle.rules.specs.Stored.{Stored, Value, Mark, sectionSums, storedOf}
 use Rattle.rules.specs.Checks.{orBad, badFields}
 use Rattle.amounts.proofs.Outcomes.{first-none}
 use Rattle.rebalance.specs.Rebalance.{keptFields, clear}
-use Rattle.rebalance.proofs.Written.{both-true, laid, Printable, valueFields, digits-pass}
+use Rattle.text.proofs.Tests.{both-true}
+use Rattle.rebalance.proofs.Written.{laid, Printable, valueFields, digits-pass}
 
 -- A record stores nothing, or it is the balance of a section, a 50-01 or the tail.
 pub data Storing (st : State) : Kind → Type 0 where

@@ -16,7 +16,7 @@ use Rattle.rules.specs.declared.State.{State}
 use Rattle.amounts.specs.Amounts.{apart}
 use Rattle.rules.specs.Stored.{Stored, Value, storedBalance, storedSection, storedOf}
 use Rattle.rebalance.specs.Rebalance.{fitsOne, fitsAll}
-use Rattle.rebalance.proofs.Written.{both-true}
+use Rattle.text.proofs.Tests.{both-true}
 
 -- A test by itself.
 pub alone : (t : Bool) → cond t true false ≡ t

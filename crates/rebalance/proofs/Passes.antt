@@ -19,7 +19,7 @@ use Rattle.judge.specs.Flow.{recordsOf, restOf}
 use Rattle.judge.specs.Plain.{Whole}
 use Rattle.rebalance.specs.Rebalance.{emit, rebalanced, fitsAll, allFit, flat}
 use Rattle.rebalance.specs.Weigh.{Turn}
-use Rattle.rebalance.proofs.Written.{both-true}
+use Rattle.text.proofs.Tests.{both-true}
 use Rattle.rebalance.proofs.Emit.{emit-length}
 use Rattle.rebalance.proofs.Turns.{next-below, rest-on, rest-end, rest-start}
 use Rattle.records.proofs.Sizes.{record-sized}

@@ -1,7 +1,7 @@
 -- Stored fields that stand apart within a record: what the record holds once they are written, and what passing their checks says of it.
 use Prim.Native.Nat.{ℕ, _+_, _-_, _^_, _<_, _≤_}
 use mathlib.Core.Path.{_≡_, refl, sym, ap, _∙_}
-use mathlib.Core.Bool.{Bool, true, false, cond, false≢true}
+use mathlib.Core.Bool.{Bool, true, false, cond}
 use mathlib.Core.List.{List, [], _∷_}
 use native.Mathlib.Omega.{arith}
 use borrow.Author.Tests.{ltb-true, lt-ltb, leb-true, eqb-true, eq-eqb}
@@ -23,15 +23,11 @@ use Rattle.amounts.specs.declared.Outcome.the-variants.{Pass}
 use Rattle.rules.specs.Stored.{Stored, Value, Mark, right, faultOf, wrong}
 use Rattle.rules.specs.Checks.{orBad, badFields}
 use Rattle.rebalance.specs.Rebalance.{startOf, widthOf, textOf, putAll, fitsOne, fitsAll, clear}
+use Rattle.text.proofs.Tests.{both-true}
 
 -- A byte is a part of one byte.
 pub byte-of : (r : List ℕ) (c : ℕ) → getD r c 0 ≡ getD (take 1 (drop c r)) 0 0
 byte-of r c = let e : c + 0 ≡ c = omega arith in rw (getD-take 1 (drop c r) 0 0 (lit< tt), getD-drop, e)
-
--- Two tests that are joined hold both.
-pub both-true : (a b : Bool) → cond a b false ≡ true → (a ≡ true) × (b ≡ true)
-both-true true b e = (refl, e)
-both-true false b e = absurd (false≢true e)
 
 -- Stored fields lie within a record of 120 bytes, and none overlaps another.
 unfoldable pub laid : List Stored → Bool

@@ -5,6 +5,7 @@ use mathlib.Core.Bool.{Bool, true, false, cond, false≢true}
 use native.Mathlib.Omega.{arith}
 use lib.Dec.{eqb, ltb}
 use borrow.Author.Tests.{eqb-true, eqb-false, ltb-true, eq-eqb}
+use Rattle.text.proofs.Tests.{both-true}
 
 abbrev pub allBelow : (ℕ → Bool) → ℕ → Bool
 allBelow f zero = true
@@ -18,22 +19,6 @@ each-below f (suc n) e b h = go (f n) refl e (eqb b n) refl (λ r l. each-below 
     go false p e s q below = absurd (false≢true e)
     go true p e true q below = rw (eqb-true b n q) p
     go true p e false q below = let d = eqb-false b n q in below e (omega arith)
-
--- two tests say the same
-abbrev pub alike : Bool → Bool → Bool
-alike true b = b
-alike false b = cond b false true
-
-pub alike-same : (a b : Bool) → alike a b ≡ true → a ≡ b
-alike-same true true e = refl
-alike-same true false e = absurd (false≢true e)
-alike-same false true e = absurd (false≢true e)
-alike-same false false e = refl
-
--- what a test of two tests says
-pub cond-true : (a b : Bool) → cond a b false ≡ true → (a ≡ true) × (b ≡ true)
-cond-true true b e = (refl, e)
-cond-true false b e = absurd (false≢true e)
 
 -- the characters that pass r count less than m, each another number
 pub record Tells (r : ℕ → Bool) (v : ℕ → ℕ) (m : ℕ) : Type 0 where
@@ -51,7 +36,7 @@ module _ (r : ℕ → Bool) (v : ℕ → ℕ) (m n : ℕ) where
   tells below t = record { small = λ a p. ltb-true (v a) m (each a p .0); apart = λ a b p q e. eqb-true a b (same a b q e (each-below (other a) n (each a p .1) b (below b q))) }
     where
       each : (a : ℕ) → r a ≡ true → (ltb (v a) m ≡ true) × (allBelow (other a) n ≡ true)
-      each a p = cond-true _ _ (rw p at (each-below counts n t a (below a p)))
+      each a p = both-true _ _ (rw p at (each-below counts n t a (below a p)))
 
       same : (a b : ℕ) → r b ≡ true → v a ≡ v b → other a b ≡ true → eqb a b ≡ true
       same a b q e h = rw (q, eq-eqb (v a) (v b) e) at h

@@ -6,11 +6,12 @@ use mathlib.Core.Bool.{Bool, true, false, cond}
 use mathlib.Core.List.{List, [], _∷_}
 use lib.ListN.{set}
 use Rattle.text.specs.Among.{among}
+use Rattle.text.proofs.Tests.{alike, every}
 use Rattle.taxcode.specs.Places.{spelled, fromTo, everyFrom, sumFrom, byPlace}
 use Rattle.taxcode.specs.Persons.{capital, figure, holdsFigure, placeRight, evenValue, oddValues, oddValue, valueAt, lastLetter, personRight}
 use Rattle.taxcode.specs.Firms.{doubled, countAt, digitOrSpace, firmRight}
 use Rattle.taxcode.specs.TaxCodes.{codeRight}
-use Rattle.taxcode.proofs.Computed.{allBelow, alike}
+use Rattle.taxcode.proofs.Computed.{allBelow}
 
 -- sixteen characters are a code, or they are none; of RSSMRA85T10A562S a place may hold these characters and no others, and each makes a code with its last letter; of 03417520545 a place may hold each digit, with its last digit
 pub data Fact : Type 0 where
@@ -80,10 +81,6 @@ holds (letters k cs ls) =
     cond (each (spelled "RSSMRA85T10A562S") k 16 (spelled cs) (spelled ls)) (allBelow (λ b. alike (placeRight k b) (among b (spelled cs))) 256) false
 holds (digits k ls) = each (spelled "03417520545     ") k 11 (spelled "0123456789") (spelled ls)
 
-abbrev all : List Fact → Bool
-all [] = true
-all (x ∷ xs) = cond (holds x) (all xs) false
-
-pub code-facts : all facts ≡ true
+pub code-facts : every holds facts ≡ true
 unfolding facts codeRight personRight firmRight everyFrom sumFrom placeRight holdsFigure figure capital fromTo among spelled valueAt byPlace evenValue oddValue oddValues lastLetter digitOrSpace countAt doubled
 code-facts = refl

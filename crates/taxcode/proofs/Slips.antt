@@ -11,11 +11,12 @@ use lib.Seq.{getD-set-same, getD-set-other, take-set-le, take-set-lt, getD-take,
 use borrow.Author.Tests.{eqb-true, eqb-false, eq-eqb, leb-true, leb-false}
 use Rattle.text.specs.Numbers.{digit}
 use Rattle.text.proofs.Bytes.{between, within}
+use Rattle.text.proofs.Tests.{untrue, both-true}
 use Rattle.taxcode.specs.Places.{fromTo, everyFrom, sumFrom}
 use Rattle.taxcode.specs.Persons.{capital, placeRight, valueAt, lastLetter, personRight}
 use Rattle.taxcode.specs.Firms.{countAt, digitOrSpace, firmRight}
 use Rattle.taxcode.specs.TaxCodes.{codeRight}
-use Rattle.taxcode.proofs.Computed.{cond-true, Tells}
+use Rattle.taxcode.proofs.Computed.{Tells}
 use Rattle.taxcode.proofs.Characters.{letter-place, values-tell}
 use Rattle.taxcode.proofs.Digits.{counts-tell}
 use Rattle.taxcode.proofs.PersonTurns.{person-is}
@@ -25,10 +26,10 @@ use Rattle.taxcode.proofs.FirmTurns.{digit-place, space-place}
 every-at : (p : ℕ → ℕ → Bool) (k : ℕ) (l : List ℕ) (i : ℕ) → i < length l → everyFrom p k l ≡ true → p (k + i) (getD l i 0) ≡ true
 unfolding everyFrom
 every-at p k [] i h e = absurd (omega arith)
-every-at p k (b ∷ bs) zero h e = rw (add-zero k) (cond-true (p k b) _ e .0)
+every-at p k (b ∷ bs) zero h e = rw (add-zero k) (both-true (p k b) _ e .0)
 every-at p k (b ∷ bs) (suc i) h e =
     let s : k + suc i ≡ k + 1 + i = omega arith in
-    rw s (every-at p (k + 1) bs i (omega arith) (cond-true (p k b) _ e .1))
+    rw s (every-at p (k + 1) bs i (omega arith) (both-true (p k b) _ e .1))
 
 -- another character in place changes a sum by what it counts there
 sum-set : (v : ℕ → ℕ → ℕ) (k : ℕ) (l : List ℕ) (i b : ℕ) → i < length l → sumFrom v k (set l i b) + v (k + i) (getD l i 0) ≡ sumFrom v k l + v (k + i) b
@@ -64,8 +65,8 @@ record Firm (code : List ℕ) : Type 0 where
 person-of : (code : List ℕ) → personRight code ≡ true → Person code
 unfolding personRight lastLetter
 person-of code e =
-    let a = cond-true (eqb (length code) 16) _ e in
-    let b = cond-true (everyFrom placeRight 1 (take 15 code)) _ (a .1) in
+    let a = both-true (eqb (length code) 16) _ e in
+    let b = both-true (everyFrom placeRight 1 (take 15 code)) _ (a .1) in
     let l : length code ≡ 16 = eqb-true _ _ (a .0) in
     let f : length (take 15 code) ≡ 15 = length-take-le 15 code (omega arith) in
     record {
@@ -77,8 +78,8 @@ person-of code e =
 firm-of : (code : List ℕ) → firmRight code ≡ true → Firm code
 unfolding firmRight
 firm-of code e =
-    let a = cond-true (eqb (length code) 16) _ e in
-    let b = cond-true (everyFrom digitOrSpace 1 code) _ (a .1) in
+    let a = both-true (eqb (length code) 16) _ e in
+    let b = both-true (everyFrom digitOrSpace 1 code) _ (a .1) in
     let l : length code ≡ 16 = eqb-true _ _ (a .0) in
     record {
       long = l;
@@ -172,13 +173,9 @@ kind-of code e = go (personRight code) refl e
     go true p e = person (person-of code p)
     go false p e = firm (firm-of code e)
 
-not-true : (t : Bool) → (t ≡ true → ⊥) → t ≡ false
-not-true true n = absurd (n refl)
-not-true false n = refl
-
 -- a code that passes, with any one of its characters mistyped, passes no more
 pub one-slip-found : (code : List ℕ) → codeRight code ≡ true → (i b : ℕ) → i < 16 → (b ≡ getD code i 0 → ⊥) → codeRight (set code i b) ≡ false
-one-slip-found code e i b h n = not-true _ (λ f. apart (kind-of code e) (kind-of (set code i b) f))
+one-slip-found code e i b h n = untrue _ (λ f. apart (kind-of code e) (kind-of (set code i b) f))
   where
     apart : KindOf code → KindOf (set code i b) → ⊥
     apart (person p) (person q) = persons-apart code i b h n p q
@@ -195,7 +192,7 @@ one-last-letter first l e b =
     let t = take-at first (b ∷ []) 15 l in
     let p : personRight x ≡ eqb b (lastLetter first) = rw (t, getD-at first b [] 0 15 l) at (person-is x n (rw t e)) in
     let h : 65 ≤ getD first 0 0 = letter-place 1 (getD first 0 0) (omega arith) (every-at placeRight 1 first 0 (omega arith) e) in
-    rw (p, not-true (firmRight x) (λ f. no-digit x (firm-of x f) (rw (List·getD-append first (b ∷ []) 0 0 (omega arith)) h))) (either (eqb b (lastLetter first)))
+    rw (p, untrue (firmRight x) (λ f. no-digit x (firm-of x f) (rw (List·getD-append first (b ∷ []) 0 0 (omega arith)) h))) (either (eqb b (lastLetter first)))
   where
     no-digit : (c : List ℕ) → Firm c → 65 ≤ getD c 0 0 → ⊥
     no-digit c f h = let d = between 48 57 (getD c 0 0) (sym (digit-place 1 _ (omega arith)) ∙ f .places 0 (omega arith)) in omega arith

@@ -1,4 +1,5 @@
 pub mod Bytes
+pub mod Tests
 pub mod Allowed
 pub mod Extremes
 pub mod Numerals

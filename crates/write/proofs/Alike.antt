@@ -16,7 +16,8 @@ use Rattle.layout.specs.declared.Field.{Field}
 use Rattle.layout.specs.Fields.{inColumns}
 use Rattle.rules.specs.Stored.{Stored}
 use Rattle.rebalance.specs.Rebalance.{putAll, clear, startOf, widthOf, textOf}
-use Rattle.rebalance.proofs.Written.{byte-of, both-true, laid, length-text, length-putAll, putAll-clear}
+use Rattle.text.proofs.Tests.{both-true}
+use Rattle.rebalance.proofs.Written.{byte-of, laid, length-text, length-putAll, putAll-clear}
 use Rattle.rebalance.proofs.Outside.{Beside, off-all, put-off, Covers, covers-clear}
 
 -- Two records of 120 bytes are alike outside these columns.

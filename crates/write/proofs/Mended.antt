@@ -16,7 +16,7 @@ use Rattle.rules.specs.Checks.{charFault}
 use Rattle.rules.specs.Step.{nextDeleghe, next}
 use Rattle.judge.specs.Plain.{stateAfter}
 use Rattle.rebalance.specs.Rebalance.{keptFault, fitsAll, allFit, Mendable}
-use Rattle.rebalance.proofs.Written.{both-true}
+use Rattle.text.proofs.Tests.{both-true}
 use Rattle.sheet.specs.Slots.{slotFault}
 use Rattle.sheet.specs.Sheet.{Entry}
 use Rattle.sheet.specs.Filled.{filled, filledAll}

@@ -1,0 +1,30 @@
+-- What tests say: one that does not hold, two that are joined, two that agree, one over a list.
+use mathlib.Core.Path.{_≡_, refl}
+use mathlib.Core.Bool.{Bool, true, false, cond, false≢true}
+use mathlib.Core.List.{List, [], _∷_}
+
+-- A test that does not hold is false.
+pub untrue : (b : Bool) → (b ≡ true → ⊥) → b ≡ false
+untrue true h = absurd (h refl)
+untrue false h = refl
+
+-- Two tests that are joined hold both.
+pub both-true : (a b : Bool) → cond a b false ≡ true → (a ≡ true) × (b ≡ true)
+both-true true b e = (refl, e)
+both-true false b e = absurd (false≢true e)
+
+-- Two tests agree.
+abbrev pub alike : Bool → Bool → Bool
+alike true b = b
+alike false b = cond b false true
+
+pub alike-same : (a b : Bool) → alike a b ≡ true → a ≡ b
+alike-same true true e = refl
+alike-same true false e = absurd (false≢true e)
+alike-same false true e = absurd (false≢true e)
+alike-same false false e = refl
+
+-- Every one of a list passes a test.
+abbrev pub every : {A : Type 0} → (A → Bool) → List A → Bool
+every p [] = true
+every p (x ∷ xs) = cond (p x) (every p xs) false
