@@ -6,8 +6,9 @@ use mathlib.Core.Bool.{Bool, true, false, cond}
 use mathlib.Core.List.{List, [], _∷_}
 use lib.Dec.{eqb}
 use lib.ListN.{getD}
+use Rattle.text.specs.Among.{fromTo}
 use Rattle.text.proofs.Tests.{every}
-use Rattle.amounts.specs.Dates.{leap, months, daysIn, within, dayExists, dateRight}
+use Rattle.amounts.specs.Dates.{leap, months, daysIn, dayExists, dateRight}
 
 -- six digits are a date, or they are none
 pub data Fact : Type 0 where
@@ -37,7 +38,7 @@ holds (date v) = dateRight v
 holds (no-date v) = cond (dateRight v) false true
 
 pub calendar-facts : every holds facts ≡ true
-unfolding facts dateRight dayExists within daysIn months leap
+unfolding facts dateRight dayExists daysIn months leap
 calendar-facts = refl
 
 -- the sum of f over the numbers below n, and how many of these pass a test
@@ -66,15 +67,15 @@ lengthOf leapYear month = getD (0 ∷ months leapYear) month 0
 
 -- how many pairs of a month and a day such a year has
 abbrev daysOf : Bool → ℕ
-daysOf b = total (λ month. passing (λ day. within 1 (lengthOf b month) day) 100) 100
+daysOf b = total (λ month. passing (λ day. fromTo 1 (lengthOf b month) day) 100) 100
 
 days-of : (b : Bool) → daysOf b ≡ cond b 366 365
-unfolding months within
+unfolding months
 days-of true = refl
 days-of false = refl
 
 -- a number of six digits is a date where its day is one of its month's
-parts : (day month year : ℕ) → month < 100 → year < 100 → dateRight (digits day month year) ≡ within 1 (lengthOf (leap year) month) day
+parts : (day month year : ℕ) → month < 100 → year < 100 → dateRight (digits day month year) ≡ fromTo 1 (lengthOf (leap year) month) day
 unfolding dateRight dayExists daysIn
 parts day month year m y =
     let d : digits day month year / 10000 ≡ day = omega arith in

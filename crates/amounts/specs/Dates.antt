@@ -2,8 +2,9 @@
 use Prim.Native.Nat.{ℕ, _/_, _%_}
 use mathlib.Core.Bool.{Bool, false, cond}
 use mathlib.Core.List.{List, [], _∷_}
-use lib.Dec.{eqb, leb}
+use lib.Dec.{eqb}
 use lib.ListN.{getD}
+use Rattle.text.specs.Among.{fromTo}
 
 -- "years are 2000 to 2099, with a leap year each fourth": of two digits, so 2000 is 0
 unfoldable pub leap : ℕ → Bool
@@ -17,13 +18,9 @@ months leapYear = 31 ∷ cond leapYear 29 28 ∷ 31 ∷ 30 ∷ 31 ∷ 30 ∷ 31 
 unfoldable pub daysIn : ℕ → ℕ → ℕ
 daysIn month year = getD (0 ∷ months (leap year)) month 0
 
--- a number from a first to a last one
-unfoldable pub within : ℕ → ℕ → ℕ → Bool
-within lo hi n = cond (leb lo n) (leb n hi) false
-
 -- "A date is valid only if the day exists in that month"
 unfoldable pub dayExists : ℕ → ℕ → ℕ → Bool
-dayExists day month year = within 1 (daysIn month year) day
+dayExists day month year = fromTo 1 (daysIn month year) day
 
 -- "creation date at 14-19, day, month, two-digit year", as one number
 unfoldable pub dateRight : ℕ → Bool

@@ -1,6 +1,7 @@
 // Dates of six digits, day, month and year. The years are 2000 to 2099.
 ghost use mathlib.Core.Path.{_≡_};
-ghost use Rattle.amounts.specs.Dates.{daysIn, within, dateRight};
+ghost use Rattle.text.specs.Among.{fromTo};
+ghost use Rattle.amounts.specs.Dates.{daysIn, dateRight};
 
 // The days of February: there is a leap year each fourth, 2000 the first.
 fn february(year: u64) -> u64
@@ -32,9 +33,15 @@ fn days_in(month: u64, year: u64) -> u64
 
 // Whether n is one of the numbers from lo to hi.
 fn is_within(lo: u64, hi: u64, n: u64) -> bool
-    ensures { λ r. ⌜ r ≡ within lo hi n ⌝ }
+    ensures { λ r. ⌜ r ≡ fromTo lo hi n ⌝ }
 {
-    if lo <= n { n <= hi } else { false }
+    if n < lo {
+        return false;
+    }
+    if hi < n {
+        return false;
+    }
+    true
 }
 
 // Whether six digits are a date: the day exists in its month.

@@ -76,7 +76,7 @@ carried-on : (d v : ℕ) → numberFault d Taxpayer v ≡ Pass → v ≡ d + 1
 unfolding numberFault
 carried-on d v e = carried-number (d + 1) v e
 
--- 26 is the refusal of a flow exactly where its first record with a fault is a record 10 of which the checks before 26 pass and the code cannot exist, and it is at that record and 11
+-- 26 is the refusal of a flow exactly where it is whole records and the first with a fault is a record 10 of which the checks before 26 pass and the code cannot exist, and it is at that record and 11
 pub twenty-six-exactly : (s : List ℕ) (k p : ℕ) → (refusalOf (judged s .verdict) ≡ refusal 26 k p) ↔ ((p ≡ 11) × NoSuchCode s k)
 unfolding startState
 twenty-six-exactly s k p = (means, told)

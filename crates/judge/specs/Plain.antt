@@ -139,7 +139,7 @@ pub record NoSuchDay (s : List ℕ) : Type 0 where
   pub name : nameRight (bytesOf (recordAt s 1) supportName) ≡ true
   pub day : dateRight (valueOf (recordAt s 1) creationDate) ≡ false
 
--- the first record of a flow that has a fault is the k-th: a record of type 10 that breaks no check before 26, which are 3, 4, 7 and 8, and the code at its positions 11 to 26 cannot exist
+-- of 1 to 546 whole records the first that has a fault is the k-th: a record of type 10 that breaks no check before 26, which are 3, 4, 7 and 8, and the code at its positions 11 to 26 cannot exist
 pub record NoSuchCode (s : List ℕ) (k : ℕ) : Type 0 where
   pub whole : Whole s
   pub before : List (List ℕ)

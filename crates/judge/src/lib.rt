@@ -20,7 +20,7 @@ use rules::State;
 use text::Digits;
 use words::Fifteen;
 
-// The answer: accepted, or refused with document 01's number, the record counted from 1, and the position.
+// The answer: accepted, or refused with the number that documents 01 and 02 give, the record counted from 1, and the position.
 pub enum Verdict {
     Accepted,
     Refused(u64, usize, usize),

@@ -31,7 +31,7 @@ delegaNumber = columns 4 10
 abbrev pub creationDate : Field
 creationDate = columns 14 19
 
--- 10: "The taxpayer's code", ask 2 of document 02
+-- 10: "The taxpayer's code .. in the columns 000 gives", ask 2 of document 02
 abbrev pub taxCode : Field
 taxCode = columns 11 26
 

@@ -1,4 +1,4 @@
--- Believed down to `orRefused`; what follows serves inner functions. The lenient judgement of records: document 01's first fault, with every total, sign, balance and tail value taken as right.
+-- Believed down to `orRefused`; what follows serves inner functions. The lenient judgement of records: the first fault of the checks that documents 01 and 02 list, with every total, sign, balance and tail value taken as right.
 use Prim.Native.Nat.{ℕ, _+_}
 use mathlib.Core.Bool.{cond}
 use mathlib.Core.List.{List, [], _∷_}

@@ -77,7 +77,7 @@ dateFault v = cond (dateRight v) Pass (Fault 17 14)
 unfoldable pub codeFault : List ℕ → Outcome
 codeFault code = cond (codeRight code) Pass (Fault 26 11)
 
--- 9 of a line, 14 of a 50-01, 16 and 17 of the head, 16 of the tail, and of a 10 26, "after 8 in the same record": what is judged beside the stored fields. No kind of record has a stored field of a smaller number
+-- 9 of a line, 14 of a 50-01, 16 and 17 of the head, 16 of the tail, and 26 of a 10, "after 8 in the same record": what is judged beside the stored fields. No kind of record has a stored field of a smaller number
 abbrev pub ownChecks : List ℕ → State → Kind → List ℕ → List Outcome
 ownChecks name st Head r = headName (bytesOf r supportName) ∷ dateFault (valueOf r creationDate) ∷ []
 ownChecks name st Taxpayer r = codeFault (bytesOf r taxCode) ∷ []

@@ -5,11 +5,11 @@ use mathlib.Core.Bool.{Bool, true, false, cond, not, false≢true}
 use native.Mathlib.Omega.{arith}
 use lib.Dec.{eqb, ltb, leb}
 use borrow.Author.Tests.{ne-eqb, leb-true, leb-false, lt-ltb, le-ltb}
-use Rattle.text.specs.Among.{among}
+use Rattle.text.specs.Among.{among, fromTo}
 use Rattle.text.specs.Numbers.{digit}
 use Rattle.text.proofs.Bytes.{between}
 use Rattle.text.proofs.Tests.{alike, alike-same}
-use Rattle.taxcode.specs.Places.{spelled, fromTo, byPlace}
+use Rattle.taxcode.specs.Places.{spelled, byPlace}
 use Rattle.taxcode.specs.Persons.{capital, figure, holdsFigure, placeRight, evenValue, oddValues, oddValue, valueAt}
 use Rattle.taxcode.proofs.Computed.{each-below, Tells, tells}
 
@@ -34,7 +34,7 @@ figure-place k = go (leb k 15) refl
 
 -- the letters for digits are those from L to V but O
 pub figure-letter : (b : ℕ) → b < 256 → figure b ≡ cond (digit b) true (cond (fromTo 76 86 b) (not (eqb b 79)) false)
-unfolding figure among spelled fromTo
+unfolding figure among spelled
 figure-letter b h = alike-same _ _ (each-below (λ b. alike (figure b) (cond (digit b) true (cond (fromTo 76 86 b) (not (eqb b 79)) false))) 256 refl b h)
 
 -- a digit counts itself in an even place
@@ -58,7 +58,7 @@ valueIn even b = cond even (evenValue b) (oddValue b)
 
 -- nothing behind Z may stand in any place
 beyond : (figures : Bool) (b : ℕ) → 90 < b → rightIn figures b ≡ false
-unfolding figure capital fromTo among spelled
+unfolding figure capital among spelled
 beyond true b h =
     let n : (x : ℕ) → x ≤ 90 → eqb b x ≡ false = λ x g. ne-eqb b x (λ i. omega arith) in
     rw (le-ltb b 48 (omega arith), lt-ltb 57 b (omega arith), n 76 (omega arith), n 77 (omega arith), n 78 (omega arith), n 80 (omega arith), n 81 (omega arith), n 82 (omega arith), n 83 (omega arith), n 84 (omega arith), n 85 (omega arith), n 86 (omega arith))
@@ -73,7 +73,7 @@ right-least figures b e = go (leb b 90) refl
 
 -- in one place the characters count differently, less than 26 each
 told : (figures even : Bool) → Tells (rightIn figures) (valueIn even) 26
-unfolding figure capital fromTo among spelled evenValue oddValue oddValues
+unfolding figure capital among spelled evenValue oddValue oddValues
 told true true = tells _ _ 26 91 (right-least true) refl
 told true false = tells _ _ 26 91 (right-least true) refl
 told false true = tells _ _ 26 91 (right-least false) refl
@@ -89,5 +89,5 @@ values-tell k = told (holdsFigure k) (eqb (k % 2) 0)
 
 -- before place 7 there are letters only
 pub letter-place : (k b : ℕ) → k < 7 → placeRight k b ≡ true → 65 ≤ b
-unfolding placeRight capital fromTo
+unfolding placeRight capital
 letter-place k b h e = between 65 90 b (rw (figure-place k, lt-ltb k 7 h, ne-eqb k 9 (λ i. omega arith), ne-eqb k 12 (λ i. omega arith)) at e) .0

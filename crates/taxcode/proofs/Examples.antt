@@ -7,7 +7,7 @@ use mathlib.Core.List.{List, [], _∷_}
 use lib.ListN.{set}
 use Rattle.text.specs.Among.{among}
 use Rattle.text.proofs.Tests.{alike, every}
-use Rattle.taxcode.specs.Places.{spelled, fromTo, everyFrom, sumFrom, byPlace}
+use Rattle.taxcode.specs.Places.{spelled, everyFrom, sumFrom, byPlace}
 use Rattle.taxcode.specs.Persons.{capital, figure, holdsFigure, placeRight, evenValue, oddValues, oddValue, valueAt, lastLetter, personRight}
 use Rattle.taxcode.specs.Firms.{doubled, countAt, digitOrSpace, firmRight}
 use Rattle.taxcode.specs.TaxCodes.{codeRight}
@@ -82,5 +82,5 @@ holds (letters k cs ls) =
 holds (digits k ls) = each (spelled "03417520545     ") k 11 (spelled "0123456789") (spelled ls)
 
 pub code-facts : every holds facts ≡ true
-unfolding facts codeRight personRight firmRight everyFrom sumFrom placeRight holdsFigure figure capital fromTo among spelled valueAt byPlace evenValue oddValue oddValues lastLetter digitOrSpace countAt doubled
+unfolding facts codeRight personRight firmRight everyFrom sumFrom placeRight holdsFigure figure capital among spelled valueAt byPlace evenValue oddValue oddValues lastLetter digitOrSpace countAt doubled
 code-facts = refl

@@ -12,7 +12,7 @@ use borrow.Author.Tests.{eqb-true, eqb-false, eq-eqb, leb-true, leb-false}
 use Rattle.text.specs.Numbers.{digit}
 use Rattle.text.proofs.Bytes.{between, within}
 use Rattle.text.proofs.Tests.{untrue, both-true}
-use Rattle.taxcode.specs.Places.{fromTo, everyFrom, sumFrom}
+use Rattle.taxcode.specs.Places.{everyFrom, sumFrom}
 use Rattle.taxcode.specs.Persons.{capital, placeRight, valueAt, lastLetter, personRight}
 use Rattle.taxcode.specs.Firms.{countAt, digitOrSpace, firmRight}
 use Rattle.taxcode.specs.TaxCodes.{codeRight}
@@ -203,5 +203,5 @@ one-last-letter first l e b =
 
 -- it is a capital letter
 pub last-is-capital : (first : List ℕ) → capital (lastLetter first) ≡ true
-unfolding capital lastLetter fromTo
+unfolding capital lastLetter
 last-is-capital first = within 65 90 (65 + sumFrom valueAt 1 first % 26) (omega arith) (omega arith)

@@ -4,25 +4,9 @@ use mathlib.Core.Bool.{Bool, true, false, cond}
 use mathlib.Core.List.{List, [], _∷_}
 use lib.Dec.{eqb}
 use lib.ListN.{length, getD, take}
-use Rattle.text.specs.Among.{among}
+use Rattle.text.specs.Among.{among, fromTo}
 use Rattle.text.specs.Numbers.{digit}
-use Rattle.taxcode.specs.Places.{spelled, fromTo, everyFrom, sumFrom, byPlace}
-
--- "capital letters": A to Z
-unfoldable pub capital : ℕ → Bool
-capital b = fromTo 65 90 b
-
--- "digits, or L M N P Q R S T U V for 0 to 9"
-unfoldable pub figure : ℕ → Bool
-figure b = cond (digit b) true (among b (spelled "LMNPQRSTUV"))
-
--- "Places 7, 8, 10, 11 and 13 to 15"
-unfoldable pub holdsFigure : ℕ → Bool
-holdsFigure k = among k (7 ∷ 8 ∷ 10 ∷ 11 ∷ 13 ∷ 14 ∷ 15 ∷ [])
-
--- these places "hold digits, or L M N P Q R S T U V for 0 to 9; the others capital letters"
-unfoldable pub placeRight : ℕ → ℕ → Bool
-placeRight k b = cond (holdsFigure k) (figure b) (capital b)
+use Rattle.taxcode.specs.Places.{spelled, everyFrom, sumFrom, byPlace}
 
 -- "In even places a digit counts itself and a letter its place from A as 0"
 unfoldable pub evenValue : ℕ → ℕ
@@ -44,6 +28,22 @@ valueAt k b = byPlace k (evenValue b) (oddValue b)
 -- "the values of the first fifteen, summed modulo 26, give the last letter (A is 0)"
 unfoldable pub lastLetter : List ℕ → ℕ
 lastLetter bs = 65 + sumFrom valueAt 1 bs % 26
+
+-- "capital letters": A to Z
+unfoldable pub capital : ℕ → Bool
+capital b = fromTo 65 90 b
+
+-- "digits, or L M N P Q R S T U V for 0 to 9"
+unfoldable pub figure : ℕ → Bool
+figure b = cond (digit b) true (among b (spelled "LMNPQRSTUV"))
+
+-- "Places 7, 8, 10, 11 and 13 to 15"
+unfoldable pub holdsFigure : ℕ → Bool
+holdsFigure k = among k (7 ∷ 8 ∷ 10 ∷ 11 ∷ 13 ∷ 14 ∷ 15 ∷ [])
+
+-- these places "hold digits, or L M N P Q R S T U V for 0 to 9; the others capital letters"
+unfoldable pub placeRight : ℕ → ℕ → Bool
+placeRight k b = cond (holdsFigure k) (figure b) (capital b)
 
 -- "Sixteen characters": the first fifteen each as their place asks, and the last the letter that they give
 unfoldable pub personRight : List ℕ → Bool

@@ -4,16 +4,12 @@ use mathlib.Core.Bool.{Bool, true, false, cond}
 use Prim.Native.Char.{code}
 use Prim.Native.String.{String, [] as []ˢ, _∷_ as _∷ˢ_}
 use mathlib.Core.List.{List, [], _∷_}
-use lib.Dec.{eqb, ltb}
+use lib.Dec.{eqb}
 
 -- a text's characters, as bytes
 unfoldable pub spelled : String → List ℕ
 spelled []ˢ = []
 spelled (c ∷ˢ cs) = code c ∷ spelled cs
-
--- a character from lo to hi
-unfoldable pub fromTo : ℕ → ℕ → ℕ → Bool
-fromTo lo hi b = cond (ltb b lo) false (cond (ltb hi b) false true)
 
 -- every character passes the test of its place, where the first stands in place k
 unfoldable pub everyFrom : (ℕ → ℕ → Bool) → ℕ → List ℕ → Bool

@@ -8,7 +8,7 @@ ghost use Rattle.taxcode.specs.TaxCodes.{codeRight};
 use firms::firm_right;
 use persons::person_right;
 
-// How many characters a code has, spaces included, where a person's has its last letter, and how many digits a firm's has.
+// How many characters a code has, spaces included, the index of a person's last letter, and how many digits a firm's has.
 pub struct Code {
     pub places: usize,
 }

@@ -109,5 +109,5 @@ pub fn person_right(code: &[u8]) -> bool
         sum += by_place(i + 1, v, wide(odd[v]));
         i += 1;
     }
-    wide(code[Code::LAST]) == 65 + sum % 26
+    wide(code[Code::LAST]) == wide(b'A') + sum % 26
 }

@@ -1,7 +1,8 @@
 // What the two kinds of code share: ranges of characters, and even and odd places.
 ghost use mathlib.Core.Path.{_≡_};
+ghost use Rattle.text.specs.Among.{fromTo};
 ghost use Rattle.text.specs.Numbers.{digit};
-ghost use Rattle.taxcode.specs.Places.{fromTo, byPlace};
+ghost use Rattle.taxcode.specs.Places.{byPlace};
 
 // Whether a byte is one of those from lo to hi.
 pub fn is_from(lo: u8, hi: u8, b: u8) -> bool

@@ -2,13 +2,13 @@
 use Prim.Native.Nat.{ℕ, _+_}
 use mathlib.Core.List.{List, [], _∷_}
 use mathlib.Core.Bool.{Bool, true, false, cond}
-use lib.Dec.{ltb}
+use Rattle.text.specs.Among.{fromTo}
 use Rattle.text.specs.declared.Characters.{Characters}
 use Rattle.text.specs.declared.Characters.the-variants.{Allowed, BadAt}
 
 -- A byte outside 32 to 126 is no character of a flow.
 abbrev pub allowed : ℕ → Bool
-allowed b = cond (ltb b 32) false (cond (ltb 126 b) false true)
+allowed b = fromTo 32 126 b
 
 -- The first byte that is no character, at its offset, where i bytes stand before the list.
 unfoldable pub firstBadFrom : ℕ → List ℕ → Characters

@@ -1,4 +1,4 @@
+pub mod Among
 pub mod Characters
 pub mod Numbers
 pub mod Placing
-pub mod Among

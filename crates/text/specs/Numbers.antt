@@ -4,12 +4,13 @@ use mathlib.Core.List.{List, [], _∷_, _++_}
 use mathlib.Core.Bool.{Bool, true, false, cond}
 use lib.Dec.{ltb}
 use lib.ListN.{length}
+use Rattle.text.specs.Among.{fromTo}
 use Rattle.text.specs.declared.Digits.{Digits}
 use Rattle.text.specs.declared.Digits.the-variants.{Number, NonDigit, TooLong}
 
 -- A digit is a byte from 48 to 57.
 abbrev pub digit : ℕ → Bool
-digit b = cond (ltb b 48) false (cond (ltb 57 b) false true)
+digit b = fromTo 48 57 b
 
 -- The number that the digits say after i digits that say a, or the offset of the first byte that is no digit.
 unfoldable pub numberFrom : ℕ → ℕ → List ℕ → Digits

@@ -108,11 +108,16 @@ shared-slice-read-wide c = omega arith
 wide-requires-2 : tie.Need-wide-requires-2 Inv-loop μ-loop
 wide-requires-2 c κs = search needs
 
+wide-requires-3 : tie.Need-wide-requires-3 Inv-loop μ-loop
+wide-requires-3 c κs = search needs
+
 add-result : tie.Need-add-result Inv-loop μ-loop
-add-result c = omega arith
+add-result c = let a = c .wide3 .ensures in omega arith
 
 returns-3 : tie.Need-returns-3 Inv-loop μ-loop
-returns-3 c = let l = c .before .before .before in rw (c .wide2 .ensures) (sym (person-end _ (l .loop .inv .0) _ _ (l .loop .inv .2) (c .before .before .loop-test .left)))
+returns-3 c =
+    let l = c .before .before .before .before in
+    rw (c .before .wide2 .ensures, c .wide3 .ensures) (sym (person-end _ (l .loop .inv .0) _ _ (l .loop .inv .2) (c .before .before .before .loop-test .left)))
 
 pub person-right-spec : {M : Type 1} → statement M
 person-right-spec =
@@ -137,5 +142,6 @@ person-right-spec =
     loop-again
     shared-slice-read-wide
     wide-requires-2
+    wide-requires-3
     add-result
     returns-3)

@@ -1,4 +1,3 @@
-use Rattle.taxcode.specs.Places.{fromTo}
 use borrow.Author.Needs.{needs}
 use Rattle.taxcode.proofs.places.is_digit.Statement.{statement}
 use Rattle.taxcode.proofs.places.is_digit.Tie as tie
@@ -7,7 +6,6 @@ is-from-requires : tie.Need-is-from-requires
 is-from-requires c κs = search needs
 
 returns : tie.Need-returns
-unfolding fromTo
 returns c = c .is-from .ensures
 
 pub is-digit-spec : {M : Type 1} → statement M

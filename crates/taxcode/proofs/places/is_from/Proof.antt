@@ -1,18 +1,14 @@
-use Rattle.taxcode.specs.Places.{fromTo}
 use borrow.Author.Tests.{lt-ltb, le-ltb}
 use Rattle.taxcode.proofs.places.is_from.Statement.{statement}
 use Rattle.taxcode.proofs.places.is_from.Tie as tie
 
 returns : tie.Need-returns
-unfolding fromTo
 returns c = rw (lt-ltb _ _ (c .if1 .taken))
 
 returns-2 : tie.Need-returns-2
-unfolding fromTo
 returns-2 c = rw (le-ltb _ _ (c .before .if1 .left), lt-ltb _ _ (c .if2 .taken))
 
 returns-3 : tie.Need-returns-3
-unfolding fromTo
 returns-3 c = rw (le-ltb _ _ (c .before .if1 .left), le-ltb _ _ (c .if2 .left))
 
 pub is-from-spec : {M : Type 1} → statement M
