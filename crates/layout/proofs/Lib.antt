@@ -1,4 +1,5 @@
 pub mod Table
+pub mod Decision
 pub mod Within
 pub mod OtherKinds
 pub mod Spelled

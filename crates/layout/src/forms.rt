@@ -12,6 +12,7 @@ use crate::Kind;
 use crate::Part;
 use crate::Position;
 use crate::RecordType;
+use crate::section_kind;
 
 fn formed(kind: Kind, amounts: usize, at: usize) -> Form
     ensures { λ r. ⌜ r ≡ formWith kind amounts at ⌝ }
@@ -34,27 +35,27 @@ pub fn type_by(word: u64) -> RecordType
     }
 }
 
-// The lines and balances of the sections, by the characters of the subtype and in the order of the paper form.
+// The lines and balances of the sections, by the characters of the subtype and in the order of the paper form; of which kind they are is the section decision's.
 fn section_form(a: u8, b: u8) -> Form
     ensures { λ r. ⌜ r ≡ formOf (kindOf T40 (numberOf (a ∷ b ∷ []))) ⌝ }
 {
     if a == b'0' {
         return match b {
-            b'1' => formed(Kind::Line(0), 2, 27 - 1),
-            b'2' => formed(Kind::Balance(0), 3, 13 - 1),
-            b'3' => formed(Kind::Line(1), 2, 52 - 1),
-            b'4' => formed(Kind::Balance(1), 3, 13 - 1),
-            b'5' => formed(Kind::Line(2), 2, 29 - 1),
-            b'6' => formed(Kind::Balance(2), 3, 15 - 1),
-            b'7' => formed(Kind::Line(3), 2, 31 - 1),
-            b'8' => formed(Kind::Balance(3), 3, 17 - 1),
+            b'1' => formed(section_kind(1), 2, 27 - 1),
+            b'2' => formed(section_kind(2), 3, 13 - 1),
+            b'3' => formed(section_kind(3), 2, 52 - 1),
+            b'4' => formed(section_kind(4), 3, 13 - 1),
+            b'5' => formed(section_kind(5), 2, 29 - 1),
+            b'6' => formed(section_kind(6), 3, 15 - 1),
+            b'7' => formed(section_kind(7), 2, 31 - 1),
+            b'8' => formed(section_kind(8), 3, 17 - 1),
             _ => formed(Kind::Unknown, 0, 0),
         };
     }
     if a == b'1' {
         return match b {
-            b'7' => formed(Kind::Line(4), 2, 41 - 1),
-            b'8' => formed(Kind::Balance(4), 1, 44 - 1),
+            b'7' => formed(section_kind(17), 2, 41 - 1),
+            b'8' => formed(section_kind(18), 1, 44 - 1),
             _ => formed(Kind::Unknown, 0, 0),
         };
     }

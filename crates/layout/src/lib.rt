@@ -15,6 +15,7 @@ pub use columns::fields_of;
 pub use forms::form_in;
 pub use forms::is_numbered;
 pub use forms::type_by;
+pub use kinds::balance_of;
 pub use kinds::section_kind;
 
 // What the product writes and reads of an amount, in cents.
@@ -230,6 +231,13 @@ pub enum Kind {
     Addressee,
     Tail,
     Unknown,
+}
+
+// What a subtype of a record 40 stands for: a line, with its section and the subtype of the balance that closes it; the balance of a section; or that a number is no subtype.
+pub enum Subtype {
+    OfLine(usize, u64),
+    OfBalance(usize),
+    NoSubtype,
 }
 
 // A field of a record: rec[start..end].

@@ -8,8 +8,10 @@ use mathlib.Core.Bool.{Bool, true, false}
 use types.Run.{OneOf, miss}
 use denote.Enum.Declared.{tagOf}
 use Rattle.layout.proofs.Kind.{the-type}
+use Rattle.layout.proofs.Decision.{closing-balance}
 use Rattle.layout.specs.declared.Kind.{Kind}
 use Rattle.layout.specs.declared.Kind.the-variants.{Head, Taxpayer, Domicile, Line, Balance, Payment, Receipt, Addressee, Tail, Unknown}
+use Rattle.layout.specs.Decision.{balanceOf}
 use Rattle.layout.specs.Sections.{sectionAt}
 use Rattle.rules.specs.declared.State.{State}
 use Rattle.rules.specs.State.{noSums, zeroSections, startState}
@@ -121,13 +123,14 @@ pub filled-by : (name keyed a b c l : List ℕ) (slot : Kind) (d : ℕ) (st : St
 unfolding filled
 filled-by name keyed a b c l slot d st e1 e2 e3 e4 e5 = e5 ∙ rw (e4, e3, e2, e1)
 
--- The balance record of section x made step by step.
-pub made-by : (x : ℕ) (y : Section) (a b : List ℕ) → y ≡ sectionAt x → a ≡ partBytes 1 (52 ∷ 48 ∷ []) (replicate 120 32) → b ≡ numberBytes 10 2 (y .«balance_subtype») a → b ≡ madeBalance x
+-- The balance record of section x made step by step, with the subtype of the balance that closes the section's lines.
+pub made-by : (x : ℕ) (y : Section) (n : ℕ) (a b : List ℕ) → y ≡ sectionAt x → n ≡ balanceOf (y .«line_subtype») → a ≡ partBytes 1 (52 ∷ 48 ∷ []) (replicate 120 32) → b ≡ numberBytes 10 2 n a → b ≡ madeBalance x
 unfolding madeBalance typeText subtypeText
-made-by x y a b e1 e2 e3 =
-    let p : a ≡ putAt 1 (52 ∷ 48 ∷ []) (replicate 120 32) = part-put 1 (52 ∷ 48 ∷ []) (replicate 120 32) a (omega arith) e2 in
+made-by x y n a b e1 e2 e3 e4 =
+    let own : n ≡ sectionAt x .«balance_subtype» = e2 ∙ (rw e1 (closing-balance x)) in
+    let p : a ≡ putAt 1 (52 ∷ 48 ∷ []) (replicate 120 32) = part-put 1 (52 ∷ 48 ∷ []) (replicate 120 32) a (omega arith) e3 in
     let l : length a ≡ 120 = ap length p ∙ length-put 1 (52 ∷ 48 ∷ []) (replicate 120 32) (omega arith) in
-    number-put 10 2 (y .«balance_subtype») a b (omega arith) (rw e1 (subtypes-small x .1)) e3 ∙ rw (e1, p)
+    number-put 10 2 n a b (omega arith) (rw own (subtypes-small x .1)) e4 ∙ rw (own, p)
 
 -- A count in fewer bytes than it takes is none, and else what its digits say.
 pub count-short : (w : ℕ) (s : List ℕ) → length s < w → TooLong ≡ countAt w s

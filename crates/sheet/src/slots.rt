@@ -73,13 +73,15 @@ pub fn slot_fault(slot: Kind, rec: &[u8]) -> Outcome
     Outcome::Fault(4, Position::TYPE)
 }
 
-// The balance record of section x, before its number and its sums are filled: type and subtype, and spaces.
+// The balance record that closes the lines of section x, before its number and its sums are filled: its type, the subtype that is decided for these lines, and
+// spaces.
 pub fn made_balance(x: usize) -> [u8; Flow::RECORD]
     ensures { λ r. ⌜ r ≡ madeBalance x ⌝ }
 {
     let section = layout::section_at(x);
+    let closing = layout::balance_of(section.line_subtype);
     let mut rec = [b' '; Flow::RECORD];
     text::put_part(&mut rec, Part::TYPE, b"40");
-    text::put_number(&mut rec, Part::SUBTYPE, 2, section.balance_subtype);
+    text::put_number(&mut rec, Part::SUBTYPE, 2, closing);
     rec
 }

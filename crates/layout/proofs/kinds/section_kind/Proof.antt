@@ -1,54 +1,32 @@
-use Rattle.layout.specs.Kinds.{sectionKindFrom}
+use mathlib.Core.Path.{_∙_, sym, ap}
+use Rattle.layout.specs.Decision.{kindBy}
+use Rattle.layout.proofs.Decision.{decision-is-table}
 use borrow.Author.Needs.{needs}
 use Rattle.layout.proofs.kinds.section_kind.Statement.{statement}
 use Rattle.layout.proofs.kinds.section_kind.Tie as tie
 
-array-copy-out-in-row : tie.Need-array-copy-out-in-row
-array-copy-out-in-row c = search needs
+decide-requires : tie.Need-decide-requires
+decide-requires c κs = search needs
 
-in-row-requires : tie.Need-in-row-requires
-in-row-requires c κs = search needs
+enum-known-s : tie.Need-enum-known-s
+enum-known-s c = search needs
 
-array-copy-out-in-row-2 : tie.Need-array-copy-out-in-row-2
-array-copy-out-in-row-2 c = search needs
+enum-known-s-2 : tie.Need-enum-known-s-2
+enum-known-s-2 c = search needs
 
-in-row-requires-2 : tie.Need-in-row-requires-2
-in-row-requires-2 c κs = search needs
-
-array-copy-out-in-row-3 : tie.Need-array-copy-out-in-row-3
-array-copy-out-in-row-3 c = search needs
-
-in-row-requires-3 : tie.Need-in-row-requires-3
-in-row-requires-3 c κs = search needs
-
-array-copy-out-in-row-4 : tie.Need-array-copy-out-in-row-4
-array-copy-out-in-row-4 c = search needs
-
-in-row-requires-4 : tie.Need-in-row-requires-4
-in-row-requires-4 c κs = search needs
-
-array-copy-out-in-row-5 : tie.Need-array-copy-out-in-row-5
-array-copy-out-in-row-5 c = search needs
-
-in-row-requires-5 : tie.Need-in-row-requires-5
-in-row-requires-5 c κs = search needs
+enum-told : tie.Need-enum-told
+enum-told c = search needs
 
 returns : tie.Need-returns
-unfolding sectionKindFrom
-returns c = simp (c .in-row5 .ensures, c .before .before .in-row4 .ensures, c .before .before .before .before .in-row3 .ensures, c .before .before .before .before .before .before .in-row2 .ensures, c .before .before .before .before .before .before .before .before .in-row .ensures)
+returns c = ap kindBy (sym (c .before .s .given .1) ∙ c .before .before .before .decide .ensures) ∙ decision-is-table _ .0
+
+returns-2 : tie.Need-returns-2
+returns-2 c = ap kindBy (sym (c .before .s2 .given .1) ∙ c .before .before .before .decide .ensures) ∙ decision-is-table _ .0
+
+returns-3 : tie.Need-returns-3
+returns-3 c = ap kindBy (sym (c .enum-told .given .1) ∙ c .before .before .decide .ensures) ∙ decision-is-table _ .0
 
 pub section-kind-spec : {M : Type 1} → statement M
 section-kind-spec =
     tie.close
-    (tie.spec
-    array-copy-out-in-row
-    in-row-requires
-    array-copy-out-in-row-2
-    in-row-requires-2
-    array-copy-out-in-row-3
-    in-row-requires-3
-    array-copy-out-in-row-4
-    in-row-requires-4
-    array-copy-out-in-row-5
-    in-row-requires-5
-    returns)
+    (tie.spec decide-requires enum-known-s enum-known-s-2 enum-told returns returns-2 returns-3)
