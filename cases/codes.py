@@ -40,7 +40,7 @@ LETTER_PLACES, DIGIT_PLACES = (1, 2, 3, 4, 5, 6, 9, 12), (7, 8, 10, 11, 13, 14, 
 FOR_DIGITS = "LMNPQRSTUV"                   # for 0 to 9
 NOT_FOR_DIGITS = "ABCDEFGHIJKOWXYZ"
 
-PLAIN = yes(1, 8, 7500, regioni=(10000, 2500))
+PLAIN = yes(1, 8, 7500, 2, regioni=(10000, 2500))
 
 
 def coded(code):
@@ -55,7 +55,7 @@ def short(code):
 
 
 def many(codes):
-    """A delega for each code, of five records and one cent. The record 10 of the k-th is record 5k - 3."""
+    """A delega for each code, of five records, one line and one cent. The record 10 of the k-th is record 5k - 3."""
     return flow(*[delega(regioni=[(1, 0)], payer={"tax_code": code}) for code in codes])
 
 
@@ -175,9 +175,9 @@ def each_at(place):
 
 
 for place in LETTER_PLACES:
-    case("code-a-to-z-at-%02d" % place, yes(26, 132, 26, regioni=(26, 0)), many(each_at(place)), VALUES)
+    case("code-a-to-z-at-%02d" % place, yes(26, 132, 26, 26, regioni=(26, 0)), many(each_at(place)), VALUES)
 for place in DIGIT_PLACES:
-    case("code-digits-and-letters-at-%02d" % place, yes(20, 102, 20, regioni=(20, 0)), many(each_at(place)), VALUES + "; " + PLACES)
+    case("code-digits-and-letters-at-%02d" % place, yes(20, 102, 20, 20, regioni=(20, 0)), many(each_at(place)), VALUES + "; " + PLACES)
 assert {code[15] for place in LAST for code in each_at(place)} == set(ascii_uppercase)
 case("code-short-passes", no(5, 3, 0), short(PERSON), "01: refusal 5 comes after all records have passed, and record 2 has; " + PRINTED)
 case("code-short-firm-passes", no(5, 3, 0), short(FIRM), "01: refusal 5 comes after all records have passed, and record 2 has; " + ELEVEN)
@@ -243,7 +243,7 @@ def each_digit_at(place):
 
 
 for place in LAST_DIGIT:
-    case("code-firm-digits-at-%02d" % place, yes(10, 52, 10, regioni=(10, 0)), many([number + " " * 5 for number in each_digit_at(place)]), ELEVEN)
+    case("code-firm-digits-at-%02d" % place, yes(10, 52, 10, 10, regioni=(10, 0)), many([number + " " * 5 for number in each_digit_at(place)]), ELEVEN)
 
 # --- The last letter, and one character mistyped ----------------------------------------------------------------------
 case("code-printed-wrong", no(26, 2, 11), coded(WRONG), PRINTED)
@@ -354,10 +354,10 @@ case("code-third-delega", no(26, 12, 11), many([PERSON, FIRM, WRONG]), START)
 case("code-delega-108", no(26, 537, 11), many([PERSON, FIRM] * 53 + [PERSON, WRONG]), START)
 case("code-first-of-two", no(26, 2, 11), full().put(2, 11, WRONG).put(15, 11, WRONG), FIRST)
 case("code-second-and-third", no(26, 7, 11), many([FIRM, WRONG, WRONG]), FIRST)
-case("code-of-every-person", yes(len(PERSONS), 5 * len(PERSONS) + 2, len(PERSONS), regioni=(len(PERSONS), 0)), many([code for _, code, _ in PERSONS]), SUM)
-case("code-of-every-firm", yes(len(FIRMS), 5 * len(FIRMS) + 2, len(FIRMS), regioni=(len(FIRMS), 0)), many([number + " " * 5 for _, number, _ in FIRMS]), ELEVEN)
-case("code-persons-and-firms", yes(108, 542, 108, regioni=(108, 0)), many([PERSON, FIRM] * 54), "02, ask 2: the taxpayer's code, in each delega its own")
-case("code-same-twice", yes(2, 12, 2, regioni=(2, 0)), many([FIRM, FIRM]), NO_MORE)
+case("code-of-every-person", yes(len(PERSONS), 5 * len(PERSONS) + 2, len(PERSONS), len(PERSONS), regioni=(len(PERSONS), 0)), many([code for _, code, _ in PERSONS]), SUM)
+case("code-of-every-firm", yes(len(FIRMS), 5 * len(FIRMS) + 2, len(FIRMS), len(FIRMS), regioni=(len(FIRMS), 0)), many([number + " " * 5 for _, number, _ in FIRMS]), ELEVEN)
+case("code-persons-and-firms", yes(108, 542, 108, 108, regioni=(108, 0)), many([PERSON, FIRM] * 54), "02, ask 2: the taxpayer's code, in each delega its own")
+case("code-same-twice", yes(2, 12, 2, 2, regioni=(2, 0)), many([FIRM, FIRM]), NO_MORE)
 
 # --- Its turn: after 3, 4, 7 and 8 of its own record ------------------------------------------------------------------
 for position in range(11, 27):
@@ -422,7 +422,7 @@ case("code-person-in-the-name", no(26, 2, 11), coded(" " * 16).put(2, 27, PERSON
 for word, code in (("wrong", WRONG), ("blank", " " * 16), ("lower", PERSON.lower()), ("digits", "9" * 16)):
     case("code-of-20-" + word, PLAIN, plain().put(3, 82, code), "02, ask 2: the taxpayer's code; the one in record 20 (82-97) is not read")
     case("code-of-50-01-" + word, PLAIN, plain().put(7, 54, code), "02, ask 2: the taxpayer's code; the one in 50-01 (54-69) is not read")
-    case("code-of-50-02-" + word, yes(1, 9, 7500, regioni=(10000, 2500)), flow(delega(regioni=[(10000, 0), (0, 2500)], after=1)).put(8, 13, code),
+    case("code-of-50-02-" + word, yes(1, 9, 7500, 2, regioni=(10000, 2500)), flow(delega(regioni=[(10000, 0), (0, 2500)], after=1)).put(8, 13, code),
          "02, ask 2: the taxpayer's code; the sender's in 50-02 (13-28) is not read")
 case("code-right-in-50-01-alone", no(26, 2, 11), coded(WRONG).put(7, 54, PERSON), COLUMNS)
 case("code-right-in-20-alone", no(26, 2, 11), coded(WRONG).put(3, 82, PERSON), COLUMNS)

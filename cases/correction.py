@@ -39,7 +39,7 @@ def made(name, told, line, amounts, answer, why):
     number, subtype, place = line
     after = told.anew(number, SECTION_OF[subtype], place, *amounts)
     answer.compare(name, after.built())
-    CALLS.append((name, (*line, *amounts), bytes(told.built()), bytes(after.built()), ["MADE", "SAME", *answer.lines], why))
+    CALLS.append((name, (*line, *amounts), bytes(told.built()), bytes(after.built()), ["MADE", "SAME", *answer.printed], why))
     return after
 
 

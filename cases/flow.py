@@ -4,7 +4,7 @@ A flow is described by its deleghe, a delega by its lines:
 
     flow(delega(regioni=[(10000, 0), (0, 2500)]))
 
-The builder numbers the deleghe and adds up the lines; it judges nothing. A case then changes bytes with `put`, or drops,
+The builder numbers the deleghe, and counts and adds up the lines it is given; it judges nothing. A case then changes bytes with `put`, or drops,
 inserts and cuts records. Records and positions count from 1, as in 000.
 """
 
@@ -108,9 +108,10 @@ def delega_records(number, d, head):
 
 
 class Flow:
-    def __init__(self, records, sums=None):
+    def __init__(self, records, sums=None, deleghe=()):
         self.records = records
         self.sums = sums            # what the builder was told to build: see `flow`
+        self.deleghe = deleghe      # each as `delega` describes it
         self.tail = b""
 
     def put(self, number, position, text):
@@ -150,15 +151,16 @@ def flow(*deleghe, date=DATE, name=NAME, head=None):
     head = {**PLAIN_HEAD, **(head or {})}
     ends = {4: head["sender"], 9: head["bank"], 14: date, 20: name, 114: "E"}
     records = [record("F4", {**ends, 105: "2$" + head["bank"]})]
-    sums = {"total": 0, **{s: [0, 0] for s in SECTIONS}}
+    sums = {"total": 0, "lines": 0, **{s: [0, 0] for s in SECTIONS}}
     for number, d in enumerate(deleghe, 1):
         rs, debit, credit = delega_records(number, d, head)
         records += rs
         sums["total"] += debit - credit
         for s, lines in d["lines"].items():
             times = d["order"].count(s)
+            sums["lines"] += times * len(lines)
             sums[s][0] += times * sum(x[0] for x in lines)
             sums[s][1] += times * sum(x[1] for x in lines)
     records.append(record("EF", {**ends, 46: "%07d" % len(deleghe), 53: amount(sums["total"]), 68: "0" * 15,
                                  83: "%07d" % (len(records) + 1)}))
-    return Flow(records, (len(deleghe), len(records), sums))
+    return Flow(records, (len(deleghe), len(records), sums), deleghe)

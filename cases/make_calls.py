@@ -15,10 +15,10 @@ import sheet
 ROOT = Path(__file__).resolve().parent.parent
 
 
-def written(crate, calls):
-    """The data and the expected output of a crate, from name, numbers, the parts that follow the header, expected lines and reason."""
+def written(crate, calls, more=()):
+    """The data and the expected output of a crate, from name, numbers, the parts that follow the header, expected lines and reason. `more` as below."""
     assert all(len(set(map(len, parts))) == 1 for _, _, parts, _, _ in calls), crate
-    framed(crate, "calls", calls)
+    framed(crate, "calls", calls, more)
 
 
 def framed(crate, file, calls, more=()):
@@ -40,8 +40,12 @@ def framed(crate, file, calls, more=()):
     print("%s: %d calls, %d refused; data/%s %d bytes" % (crate, len(calls), refused, file, len(data)))
 
 
+def answers(file):
+    """The lines expected for a crate's data/vectors."""
+    return (ROOT / "cases" / file).read_text(encoding="ascii").splitlines()
+
+
 written("correct_cases", [(name, numbers, (before, after), lines, why) for name, numbers, before, after, lines, why in correction.CALLS])
-written("reading_cases", [(name, numbers, (flow,), lines, why) for name, numbers, flow, lines, why in readings.CALLS])
-vectors = ROOT / "cases" / "sheet_vectors.answers"
+written("reading_cases", [(name, numbers, (flow,), lines, why) for name, numbers, flow, lines, why in readings.CALLS], answers("delega_vectors.answers"))
 framed("write_cases", "sheets", [(name, (length, 0, 0, 0, 0), (data, after), lines, why) for name, length, data, after, lines, why in sheet.CASES],
-       vectors.read_text(encoding="ascii").splitlines())
+       answers("sheet_vectors.answers"))

@@ -90,18 +90,18 @@ def bad_count():
 SAMPLES = {"regioni.f24": regional_tax(), "all-sections.f24": all_sections(), "wrong-balance.f24": wrong_balance(),
            "wrong-code.f24": wrong_code()}
 
-case("sample-regioni", yes(1, 8, 7500, regioni=(10000, 2500)), SAMPLES["regioni.f24"],
+case("sample-regioni", yes(1, 8, 7500, 2, regioni=(10000, 2500)), SAMPLES["regioni.f24"],
      "01, Examples: the answer printed whole")
-case("sample-all-sections", yes(2, 27, 1991543, erario=(518316, 120050), inps=(656675, 0), regioni=(239302, 1500), imu=(163400, 0),
+case("sample-all-sections", yes(2, 27, 1991543, 11, erario=(518316, 120050), inps=(656675, 0), regioni=(239302, 1500), imu=(163400, 0),
                                 ident=(535400, 0)), SAMPLES["all-sections.f24"], "01, Order: all five sections")
 case("sample-wrong-balance", no(13, 6, 46), SAMPLES["wrong-balance.f24"], "01, Sections: the balance is the difference")
 case("sample-wrong-code", no(26, 2, 11), SAMPLES["wrong-code.f24"], "02, ask 2: the values of the first fifteen, summed modulo 26, give the last letter")
 
 SHEETS = {"regioni.sheet": regional_tax(sheet), "two-deleghe.sheet": two_deleghe(), "bad-count.sheet": bad_count()}
 
-written("sample-regioni", SHEETS["regioni.sheet"], yes(1, 8, 7500, regioni=(10000, 2500)),
+written("sample-regioni", SHEETS["regioni.sheet"], yes(1, 8, 7500, 2, regioni=(10000, 2500)),
         "02: what is written is the sample flow, samples/regioni.f24")
 assert bytes(SHEETS["regioni.sheet"].flow) == bytes(SAMPLES["regioni.f24"])
-written("sample-two-deleghe", SHEETS["two-deleghe.sheet"], yes(2, 18, 1658066, erario=(482316, 120050), inps=(615400, 0), imu=(163400, 0),
+written("sample-two-deleghe", SHEETS["two-deleghe.sheet"], yes(2, 18, 1658066, 6, erario=(482316, 120050), inps=(615400, 0), imu=(163400, 0),
                                                                ident=(517000, 0)), "02: the five sections in 01's order")
 refused("sample-bad-count", SHEETS["bad-count.sheet"], no(24, 0, 0), "02: 24 when a count isn't digits")

@@ -160,7 +160,7 @@ def written(name, keyed, answer, why, more=0):
     answer.compare(name, keyed.flow)
     made = bytes(keyed.flow)
     before = room(len(made) + more)
-    add(name, bytes(keyed), before, made + before[len(made):], ["WRITTEN %d" % len(made), *answer.lines], why)
+    add(name, bytes(keyed), before, made + before[len(made):], ["WRITTEN %d" % len(made), *answer.printed], why)
 
 
 def refused(name, keyed, answer, why, length=None):

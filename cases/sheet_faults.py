@@ -16,7 +16,7 @@ def least(section="regioni", lines=((1, 0),)):
     return sheet(delega(**{section: list(lines)}))
 
 
-LEAST = yes(1, 7, 1, regioni=(1, 0))
+LEAST = yes(1, 7, 1, 1, regioni=(1, 0))
 # Slot and record of each record of `least`.
 RECORDS = (("F4", 1), ("10", 2), ("20", 3), ("regioni", 4), ("50-01", 6), ("EF", 7))
 
@@ -253,7 +253,7 @@ refused("23-section-balance-n", sheet(delega(erario=[(MOST, 0)], inps=[(MOST, 0)
 refused("23-final-balance", sheet(delega(erario=[(MOST, 0)], imu=[(1, 0)])), no(23, 0, 0), FITS)
 refused("23-tail-sum", sheet(delega(erario=[(MOST, 0)]), delega(ident=[(1, 0)])), no(23, 0, 0), FITS)
 refused("23-first-of-two-deleghe", sheet(delega(inps=[(MOST, MOST), (7, 7)]), delega(inps=[(7, 0)])), no(23, 0, 0), FITS)
-written("fits-by-a-credit", sheet(delega(erario=[(MOST, 0)], imu=[(1, 1)])), yes(1, 9, MOST, erario=(MOST, 0), imu=(1, 1)), FITS)
+written("fits-by-a-credit", sheet(delega(erario=[(MOST, 0)], imu=[(1, 1)])), yes(1, 9, MOST, 2, erario=(MOST, 0), imu=(1, 1)), FITS)
 LAST = "Decision: sums that don't fit are 23, after every fault of every record"
 TOO = [(MOST, 0), (1, 0)]
 refused("3-in-the-tail-before-23", least("regioni", TOO).put("EF", 120, "\n"), no(3, 8, 120), LAST)

@@ -23,55 +23,55 @@ def every():
                  delega(ident=[(60000, 0)]))
 
 
-PLAIN = yes(1, 8, 7500, regioni=(10000, 2500))
-EVERY = yes(2, 18, 146000, erario=(10000, 2000), inps=(20000, 3000), regioni=(30000, 4000), imu=(40000, 5000), ident=(60000, 0))
+PLAIN = yes(1, 8, 7500, 2, regioni=(10000, 2500))
+EVERY = yes(2, 18, 146000, 5, erario=(10000, 2000), inps=(20000, 3000), regioni=(30000, 4000), imu=(40000, 5000), ident=(60000, 0))
 
 # --- Written: one section, several, several deleghe -------------------------------------------------------------------
 FROM = "02: we want the flow written from the sheet"
 written("plain", plain(), PLAIN, "01, Examples: the answer printed whole; " + FROM)
 written("every-section", every(), EVERY, "02: the five sections in 01's order")
-ONE = {"erario": yes(1, 7, 41, erario=(42, 1)), "inps": yes(1, 7, 41, inps=(42, 1)), "regioni": yes(1, 7, 41, regioni=(42, 1)),
-       "imu": yes(1, 7, 41, imu=(42, 1)), "ident": yes(1, 7, 42, ident=(42, 0))}
-FULL = {"erario": yes(1, 12, 54, erario=(60, 6)), "inps": yes(1, 10, 36, inps=(40, 4)), "regioni": yes(1, 10, 36, regioni=(40, 4)),
-        "imu": yes(1, 10, 36, imu=(40, 4)), "ident": yes(1, 34, 280, ident=(280, 0))}
+ONE = {"erario": yes(1, 7, 41, 1, erario=(42, 1)), "inps": yes(1, 7, 41, 1, inps=(42, 1)), "regioni": yes(1, 7, 41, 1, regioni=(42, 1)),
+       "imu": yes(1, 7, 41, 1, imu=(42, 1)), "ident": yes(1, 7, 42, 1, ident=(42, 0))}
+FULL = {"erario": yes(1, 12, 54, 6, erario=(60, 6)), "inps": yes(1, 10, 36, 4, inps=(40, 4)), "regioni": yes(1, 10, 36, 4, regioni=(40, 4)),
+        "imu": yes(1, 10, 36, 4, imu=(40, 4)), "ident": yes(1, 34, 280, 28, ident=(280, 0))}
 for name, most in LINE:
     credit = 0 if name == "ident" else 1
     written("one-line-" + name, sheet(delega(**{name: [(42, credit)]})), ONE[name], "02: each as a count in two digits and its line records")
     written("most-lines-" + name, sheet(delega(**{name: [(10, credit)] * most})), FULL[name], "01, Order: no more lines than rows on the paper form")
 written("four-sections-full", sheet(delega(erario=[(10, 1)] * 6, inps=[(10, 1)] * 4, regioni=[(10, 1)] * 4, imu=[(10, 1)] * 4)),
-        yes(1, 27, 162, erario=(60, 6), inps=(40, 4), regioni=(40, 4), imu=(40, 4)), "01, Order: any of the other four")
+        yes(1, 27, 162, 18, erario=(60, 6), inps=(40, 4), regioni=(40, 4), imu=(40, 4)), "01, Order: any of the other four")
 NONE = "02: the writer makes the balance records; 01, Order: a section is one or more lines, so that a count of 00 is no section"
-written("erario-and-imu", sheet(delega(erario=[(5, 0)], imu=[(6, 0)])), yes(1, 9, 11, erario=(5, 0), imu=(6, 0)), NONE)
-written("inps-and-regioni", sheet(delega(inps=[(5, 0)], regioni=[(6, 0), (7, 0)])), yes(1, 10, 18, inps=(5, 0), regioni=(13, 0)), NONE)
-written("erario-and-inps", sheet(delega(erario=[(5, 0), (1, 0)], inps=[(6, 0)])), yes(1, 10, 12, erario=(6, 0), inps=(6, 0)), NONE)
-written("regioni-and-imu", sheet(delega(regioni=[(5, 0)], imu=[(6, 0)])), yes(1, 9, 11, regioni=(5, 0), imu=(6, 0)), NONE)
+written("erario-and-imu", sheet(delega(erario=[(5, 0)], imu=[(6, 0)])), yes(1, 9, 11, 2, erario=(5, 0), imu=(6, 0)), NONE)
+written("inps-and-regioni", sheet(delega(inps=[(5, 0)], regioni=[(6, 0), (7, 0)])), yes(1, 10, 18, 3, inps=(5, 0), regioni=(13, 0)), NONE)
+written("erario-and-inps", sheet(delega(erario=[(5, 0), (1, 0)], inps=[(6, 0)])), yes(1, 10, 12, 3, erario=(6, 0), inps=(6, 0)), NONE)
+written("regioni-and-imu", sheet(delega(regioni=[(5, 0)], imu=[(6, 0)])), yes(1, 9, 11, 2, regioni=(5, 0), imu=(6, 0)), NONE)
 written("erario-inps-imu", sheet(delega(erario=[(5, 0)], inps=[(1, 1)], imu=[(6, 0)])),
-        yes(1, 11, 11, erario=(5, 0), inps=(1, 1), imu=(6, 0)), NONE)
+        yes(1, 11, 11, 3, erario=(5, 0), inps=(1, 1), imu=(6, 0)), NONE)
 written("two-deleghe", sheet(delega(erario=[(700, 0), (50, 20)], imu=[(0, 30)]), delega(regioni=[(8, 3)])),
-        yes(2, 15, 705, erario=(750, 20), regioni=(8, 3), imu=(0, 30)), "01, Delega: sums start at zero for every delega")
+        yes(2, 15, 705, 4, erario=(750, 20), regioni=(8, 3), imu=(0, 30)), "01, Delega: sums start at zero for every delega")
 written("section-17-between", sheet(delega(erario=[(1, 0)]), delega(ident=[(2, 0), (3, 0)]), delega(erario=[(4, 0)])),
-        yes(3, 18, 10, erario=(5, 0), ident=(5, 0)), "01, Order: section 17 alone, or any of the other four, in each delega anew")
-written("twelve-deleghe", sheet(*[delega(regioni=[(n, 0)]) for n in range(1, 13)]), yes(12, 62, 78, regioni=(78, 0)),
+        yes(3, 18, 10, 4, erario=(5, 0), ident=(5, 0)), "01, Order: section 17 alone, or any of the other four, in each delega anew")
+written("twelve-deleghe", sheet(*[delega(regioni=[(n, 0)]) for n in range(1, 13)]), yes(12, 62, 78, 12, regioni=(78, 0)),
         "02: it fills delega numbers, and those of two digits")
 
 # --- Written: balances ------------------------------------------------------------------------------------------------
 SIGN = "01, Sections: the balance is the difference without sign, N when debits are below credits, P in all other cases"
-written("section-n", sheet(delega(erario=[(7501, 0)], regioni=[(2500, 0), (0, 10000)])), yes(1, 10, 1, erario=(7501, 0), regioni=(2500, 10000)), SIGN)
-written("section-n-by-one", sheet(delega(inps=[(3, 4)], imu=[(9, 0)])), yes(1, 9, 8, inps=(3, 4), imu=(9, 0)), SIGN)
-written("section-zero", sheet(delega(regioni=[(5, 5)], imu=[(1, 0)])), yes(1, 9, 1, regioni=(5, 5), imu=(1, 0)),
+written("section-n", sheet(delega(erario=[(7501, 0)], regioni=[(2500, 0), (0, 10000)])), yes(1, 10, 1, 3, erario=(7501, 0), regioni=(2500, 10000)), SIGN)
+written("section-n-by-one", sheet(delega(inps=[(3, 4)], imu=[(9, 0)])), yes(1, 9, 8, 2, inps=(3, 4), imu=(9, 0)), SIGN)
+written("section-zero", sheet(delega(regioni=[(5, 5)], imu=[(1, 0)])), yes(1, 9, 1, 2, regioni=(5, 5), imu=(1, 0)),
         "01, Errors that would look right: writing N for a zero balance")
-written("delega-zero", sheet(delega(erario=[(7500, 0)], regioni=[(2500, 0), (0, 10000)])), yes(1, 10, 0, erario=(7500, 0), regioni=(2500, 10000)),
+written("delega-zero", sheet(delega(erario=[(7500, 0)], regioni=[(2500, 0), (0, 10000)])), yes(1, 10, 0, 3, erario=(7500, 0), regioni=(2500, 10000)),
         "01, Delega: zero is allowed")
 written("both-amounts", sheet(delega(erario=[(5, 4)], inps=[(5, 5)], regioni=[(5, 6)], imu=[(7, 1)])),
-        yes(1, 13, 6, erario=(5, 4), inps=(5, 5), regioni=(5, 6), imu=(7, 1)), "01, Lines: both above zero is allowed")
+        yes(1, 13, 6, 4, erario=(5, 4), inps=(5, 5), regioni=(5, 6), imu=(7, 1)), "01, Lines: both above zero is allowed")
 FIT = "01, Amounts: fifteen digits; 02: 23 is for what does not fit"
-written("total-of-fifteen-nines", sheet(delega(erario=[(MOST - 5, 0), (5, 0)])), yes(1, 8, MOST, erario=(MOST, 0)), FIT)
-written("credit-of-fifteen-nines", sheet(delega(inps=[(MOST, MOST - 7), (0, 7)])), yes(1, 8, 0, inps=(MOST, MOST)), FIT)
-written("ident-of-fifteen-nines", sheet(delega(ident=[(1, 0), (MOST - 1, 0)])), yes(1, 8, MOST, ident=(MOST, 0)), FIT)
+written("total-of-fifteen-nines", sheet(delega(erario=[(MOST - 5, 0), (5, 0)])), yes(1, 8, MOST, 2, erario=(MOST, 0)), FIT)
+written("credit-of-fifteen-nines", sheet(delega(inps=[(MOST, MOST - 7), (0, 7)])), yes(1, 8, 0, 2, inps=(MOST, MOST)), FIT)
+written("ident-of-fifteen-nines", sheet(delega(ident=[(1, 0), (MOST - 1, 0)])), yes(1, 8, MOST, 2, ident=(MOST, 0)), FIT)
 written("final-of-fifteen-nines", sheet(delega(erario=[(MOST - 3, 0)], regioni=[(9, 0)], imu=[(0, 6)])),
-        yes(1, 11, MOST, erario=(MOST - 3, 0), regioni=(9, 0), imu=(0, 6)), FIT)
-written("sum-of-fifteen-nines", sheet(delega(erario=[(MOST - 1, 0)]), delega(imu=[(1, 0)])), yes(2, 12, MOST, erario=(MOST - 1, 0), imu=(1, 0)), FIT)
-written("sections-beyond-fifteen-digits", sheet(*[delega(erario=[(MOST, MOST)])] * 3), yes(3, 17, 0, erario=(3 * MOST, 3 * MOST)),
+        yes(1, 11, MOST, 3, erario=(MOST - 3, 0), regioni=(9, 0), imu=(0, 6)), FIT)
+written("sum-of-fifteen-nines", sheet(delega(erario=[(MOST - 1, 0)]), delega(imu=[(1, 0)])), yes(2, 12, MOST, 2, erario=(MOST - 1, 0), imu=(1, 0)), FIT)
+written("sections-beyond-fifteen-digits", sheet(*[delega(erario=[(MOST, MOST)])] * 3), yes(3, 17, 0, 3, erario=(3 * MOST, 3 * MOST)),
         "Decision: a flow's section sums may need more than fifteen digits; no field of the flow holds them")
 
 # --- Written: the made balance records, every byte --------------------------------------------------------------------
@@ -89,7 +89,7 @@ written("made-balance-records", made.fill("~"), EVERY,
         "02: columns that 01 doesn't name are spaces: all of them, position 1 too, and 13-42 of 40-18")
 negative = sheet(delega(erario=[(100, 0)], imu=[(1, 100)]))
 assert bytes(negative.flow.records[6]) == (" 40000000108" "    " "000000000000001" "000000000000100" "N" "000000000000099" + " " * 58).encode("ascii")
-written("made-balance-record-n", negative, yes(1, 9, 1, erario=(100, 0), imu=(1, 100)), SIGN)
+written("made-balance-record-n", negative, yes(1, 9, 1, 2, erario=(100, 0), imu=(1, 100)), SIGN)
 
 # --- Written: what is filled, whatever was keyed there ----------------------------------------------------------------
 TAKEN = "Decision: what stood in a filled column is not looked at; 02: with every filled field taken as right"
@@ -99,7 +99,7 @@ for word, text in (("nines", "9"), ("zeros", "0"), ("letters", "Abc"), ("slashes
     written("keyed-" + word, every().key(text), EVERY, TAKEN)
 NUMBERS = "02: it fills delega numbers, from 1, whatever number was keyed"
 two = (delega(regioni=[(1, 0)]), delega(regioni=[(2, 0)]))
-TWO = yes(2, 12, 3, regioni=(3, 0))
+TWO = yes(2, 12, 3, 2, regioni=(3, 0))
 for slot in ("10", "20", "regioni", "50-01"):
     written("keyed-number-%s" % slot, sheet(*two).key_right().put(slot, 4, "0000007", delega=2), TWO, NUMBERS)
 exchanged = sheet(*two).key_right()
@@ -148,7 +148,7 @@ PAST = "01: a call that succeeds leaves so the lent room past what it writes"
 for more in (1, 119, 120, 1000):
     written("room-longer-by-%d" % more, plain(), PLAIN, PAST, more=more)
 short = [delega(regioni=[(1, 0)])] * 107
-WHOLE = yes(108, 546, 112, erario=(5, 0), regioni=(107, 0))
+WHOLE = yes(108, 546, 112, 112, erario=(5, 0), regioni=(107, 0))
 written("whole-546-records", sheet(*short, delega(erario=[(1, 0)] * 5)), WHOLE, "01: at most 546 records, that is 65,520 bytes")
 
 # --- 24: the sheet ends early, has bytes left, or a count isn't digits ------------------------------------------------

@@ -36,12 +36,16 @@
 extern "C" {
 #endif
 
+/* The version of these answers. Version 1 had no line counts and no sets of sections: f24_judge needed room for 13
+ * numbers then and f24_delega for 11, and the sums stood at answer[3] and answer[1] on. */
+#define F24_VERSION 2
+
 /* The return value where answer has too little room. */
 #define F24_NO_ROOM 100
 
 /* How many numbers each answer must have room for, refusals included. */
-#define F24_JUDGE_ROOM 13
-#define F24_DELEGA_ROOM 11
+#define F24_JUDGE_ROOM 14
+#define F24_DELEGA_ROOM 14
 #define F24_FIND_ROOM 2
 #define F24_CORRECT_ROOM 2
 #define F24_WRITE_ROOM 2
@@ -50,21 +54,26 @@ extern "C" {
  *   answer[0]           number of deleghe
  *   answer[1]           number of records
  *   answer[2]           sum of the final balances
- *   answer[3], [4]      debit and credit sum of Erario over the flow
- *   answer[5], [6]      of INPS
- *   answer[7], [8]      of Regioni
- *   answer[9], [10]     of IMU and local taxes
- *   answer[11], [12]    of identifying elements
+ *   answer[3]           number of lines, that is of records 40-01, 40-03, 40-05, 40-07 and 40-17
+ *   answer[4], [5]      debit and credit sum of Erario over the flow
+ *   answer[6], [7]      of INPS
+ *   answer[8], [9]      of Regioni
+ *   answer[10], [11]    of IMU and local taxes
+ *   answer[12], [13]    of identifying elements
  */
 uint64_t f24_judge(const uint8_t *flow, size_t flow_len, uint64_t *answer, size_t answer_len);
 
-/* Judges a flow and gives the sums of one delega, by its number. Where it is there:
+/* Judges a flow and gives the summary of one delega, by its number. Where it is there:
  *   answer[0]           its final balance
- *   answer[1], [2]      debit and credit sum of its Erario section, 0 and 0 where it has none
- *   answer[3], [4]      of INPS
- *   answer[5], [6]      of Regioni
- *   answer[7], [8]      of IMU and local taxes
- *   answer[9], [10]     of identifying elements
+ *   answer[1]           number of its lines
+ *   answer[2]           which sections it has lines of: 1 for Erario, 2 for INPS, 4 for Regioni, 8 for IMU and local
+ *                       taxes, 16 for identifying elements, added
+ *   answer[3]           how many sections these are
+ *   answer[4], [5]      debit and credit sum of its Erario section, 0 and 0 where it has none
+ *   answer[6], [7]      of INPS
+ *   answer[8], [9]      of Regioni
+ *   answer[10], [11]    of IMU and local taxes
+ *   answer[12], [13]    of identifying elements
  * 21 where the number is 0 or above the number of deleghe.
  */
 uint64_t f24_delega(const uint8_t *flow, size_t flow_len, uint64_t number, uint64_t *answer, size_t answer_len);

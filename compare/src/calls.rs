@@ -20,8 +20,23 @@ pub fn is_of_records(code: u64) -> bool {
     !matches!(code, 1 | 2 | 24 | 25 | NO_ROOM)
 }
 
+/// How many numbers the answers need room for, as include/f24.h has it.
+const JUDGE_ROOM: usize = 14;
+const DELEGA_ROOM: usize = 14;
+const FIND_ROOM: usize = 2;
+const CORRECT_ROOM: usize = 2;
+
 /// The most numbers that any answer has.
-pub const MOST_NUMBERS: usize = 13;
+pub const MOST_NUMBERS: usize = JUDGE_ROOM;
+
+/// What a judgement and a delega had room for in the header's first version,
+/// and what is too little for either since.
+pub const OLD_ROOMS: [usize; 2] = [13, 11];
+
+/// Where the ten sums begin in the answer to a judgement and in that for a
+/// delega: deleghe, records, sum and lines come before them in the one, balance,
+/// lines, set and size in the other.
+pub const SUMS: usize = 4;
 
 impl Call {
     /// The call's column in a tally.
@@ -37,9 +52,10 @@ impl Call {
     /// How many numbers the answer needs room for.
     pub fn needs(&self) -> usize {
         match self {
-            Call::Judge => MOST_NUMBERS,
-            Call::Delega { .. } => 11,
-            Call::Find { .. } | Call::Correct { .. } => 2,
+            Call::Judge => JUDGE_ROOM,
+            Call::Delega { .. } => DELEGA_ROOM,
+            Call::Find { .. } => FIND_ROOM,
+            Call::Correct { .. } => CORRECT_ROOM,
         }
     }
 }

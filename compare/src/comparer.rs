@@ -1,12 +1,13 @@
 //! Makes each call on the library and on the reference, from the same bytes,
 //! and compares everything that either leaves behind. The fast judge, which
 //! judges and no more, is held to the reference's judgement, and all of them to
-//! what the generator says of the head and of the records 10.
+//! what the generator says of the head, of the records 10 and of the lines.
 
-use crate::calls::{Call, MOST_NUMBERS, NO_ROOM};
+use crate::calls::{Call, MOST_NUMBERS, NO_ROOM, OLD_ROOMS};
 use crate::ffi;
 use crate::heads;
 use crate::lent::{Lent, Place};
+use crate::lines;
 use crate::payers;
 use crate::quick;
 use crate::rival;
@@ -78,10 +79,24 @@ impl Comparer {
         self.tallied(rng, call, flow, numbers)
     }
 
-    /// Compares a call with too little room.
+    /// Compares a call with too little room, often with as much as was enough in
+    /// the header's first version.
     pub fn compare_short(&mut self, rng: &mut Rng, call: Call, flow: &[u8]) -> Compared<()> {
-        let numbers = rng.place(call.needs());
+        let numbers = match call {
+            Call::Judge | Call::Delega { .. } if rng.one_in(2) => rng.pick(&OLD_ROOMS),
+            _ => rng.place(call.needs()),
+        };
         self.tallied(rng, call, flow, numbers).map(drop)
+    }
+
+    /// Compares a call with every room, from none to the longest. No tally counts
+    /// these.
+    pub fn compare_rooms(&mut self, rng: &mut Rng, call: Call, flow: &[u8]) -> Compared<()> {
+        for numbers in 0..=MOST_ROOM {
+            let code = self.compare_with(rng, call, flow, numbers)?;
+            assert!((code == NO_ROOM) == (numbers < call.needs()), "{call} with {numbers} numbers of room: {code}");
+        }
+        Ok(())
     }
 
     /// Compares a judgement that no tally counts.
@@ -117,7 +132,8 @@ impl Comparer {
         let mut says = None;
         if library == code && room == self.room && *left == self.after[..] && quick_same && !beside {
             says = heads::unlike(flow, code, &self.room)
-                .or_else(|| payers::unlike(|| payers::in_flow(flow), code, &self.room));
+                .or_else(|| payers::unlike(|| payers::in_flow(flow), code, &self.room))
+                .or_else(|| lines::unlike(&call, flow, code, &self.room));
             if says.is_none() {
                 return Ok(code);
             }

@@ -1,5 +1,7 @@
 //! Flows in one file, each after a line of 48 bytes: its name in 40
 //! characters, a space, its length in six digits and LF. LF follows the flow.
+//! Those of calls with numbers stand after a line of 153 bytes, with five
+//! numbers in 20 digits between name and length, each after a space.
 
 use std::io::{self, Write};
 
@@ -8,6 +10,14 @@ pub const HEADER: usize = 48;
 pub fn write(out: &mut impl Write, name: &str, flow: &[u8]) -> io::Result<()> {
     writeln!(out, "{name:<40} {:06}", flow.len())?;
     out.write_all(flow)?;
+    out.write_all(b"\n")
+}
+
+/// The same of a call with these numbers, on a flow or on a sheet.
+pub fn write_call(out: &mut impl Write, name: &str, numbers: [u64; 5], bytes: &[u8]) -> io::Result<()> {
+    let numbers = numbers.map(|number| format!("{number:020}")).join(" ");
+    writeln!(out, "{name:<40} {numbers} {:06}", bytes.len())?;
+    out.write_all(bytes)?;
     out.write_all(b"\n")
 }
 

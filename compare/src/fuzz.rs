@@ -13,6 +13,7 @@ mod dates;
 mod ffi;
 mod heads;
 mod lent;
+mod lines;
 mod payers;
 mod quick;
 mod report;

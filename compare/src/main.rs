@@ -12,11 +12,13 @@ mod comparer;
 mod correction;
 mod damage;
 mod dates;
+mod delega_vectors;
 mod endings;
 mod ffi;
 mod frames;
 mod heads;
 mod lent;
+mod lines;
 mod payers;
 mod probe;
 mod quick;
@@ -35,10 +37,11 @@ mod trap;
 mod vectors;
 mod writing;
 
-use calls::Call;
+use calls::{Call, MOST_NUMBERS, SUMS};
 use comparer::{Compared, Comparer, Difference};
 use damage::Made;
 use heads::Dates;
+use lines::Sets;
 use payers::Codes;
 use rng::Rng;
 use sevens::{Character, Sevens};
@@ -60,6 +63,8 @@ const USAGE: &str = "usage:
   compare vectors SEED COUNT FLOWS STDOUT    writes random flows with the reference's answers
   compare vectors sheets SEED COUNT DATA STDOUT
                                              writes random sheets with the reference's answers
+  compare vectors deleghe SEED COUNT DATA STDOUT
+                                             writes random calls for one delega with the reference's answers
 The first difference goes to the folder that COMPARE_FOLDER names, or to 'difference'.";
 
 /// Fewest times that each answer must come up in a full run.
@@ -124,6 +129,10 @@ fn run(words: &[&str]) -> Result<(), Failure> {
             sheet_vectors::write(number(seed)?, number(count)?, data, stdout)
                 .map_err(|error| Failure::Io(error.to_string()))
         }
+        ["vectors", "deleghe", seed, count, data, stdout] => {
+            delega_vectors::write(number(seed)?, number(count)?, data, stdout)
+                .map_err(|error| Failure::Io(error.to_string()))
+        }
         ["vectors", seed, count, flows, stdout] => {
             vectors::write(number(seed)?, number(count)?, flows, stdout).map_err(|error| Failure::Io(error.to_string()))
         }
@@ -154,6 +163,8 @@ fn compare(seed: u64, flows: u64, corrections: u64, sheets: u64) -> Result<(), F
     let pool = Pool::new(seed);
     let mut comparer = Comparer::new();
     let mut shapes = Shapes::default();
+    every_room(&mut comparer, &pool)
+        .map_err(|difference| Failure::Differs("rooms of every length".to_string(), difference))?;
     for index in 0..flows {
         trap::at(trap::FLOW, seed, index);
         flow_case(&mut comparer, &pool, seed, index, &mut shapes)
@@ -190,11 +201,13 @@ fn compare(seed: u64, flows: u64, corrections: u64, sheets: u64) -> Result<(), F
     let (judged_at, written_at) = (shapes.sevens.rarest("judge"), writings.tally.sevens.rarest_place("write"));
     let (judged_dates, written_dates) = (shapes.dates.rarest("judge"), writings.tally.dates.rarest("write"));
     let (judged_codes, written_codes) = (shapes.codes.rarest("judge"), writings.tally.codes.rarest("write"));
+    let told_sets = shapes.sets.rarest("delega");
     for (least, cases, full) in [
         (judged, flows, FULL_FLOWS),
         (judged_at, flows, FULL_FLOWS),
         (judged_dates, flows, FULL_FLOWS),
         (judged_codes, flows, FULL_FLOWS),
+        (told_sets, flows, FULL_FLOWS),
         (corrected, corrections, FULL_CORRECTIONS),
         (written, sheets, FULL_SHEETS),
         (written_at, sheets, FULL_SHEETS),
@@ -231,6 +244,30 @@ fn progress_past(before: u64, now: u64, of: u64, what: &str) {
     }
 }
 
+/// Every call with a room of every length, on a flow that is accepted and on one
+/// that is refused.
+fn every_room(comparer: &mut Comparer, pool: &Pool) -> Compared<()> {
+    let mut rng = Rng::new(24, 16, 0);
+    let accepted = sound::write(&mut rng, pool, &sound::printed()).bytes;
+    let refused = &accepted[..accepted.len() - columns::RECORD];
+    let calls = [
+        Call::Judge,
+        Call::Delega { number: 1 },
+        Call::Delega { number: 2 },
+        Call::Find { delega: 1, subtype: 5, place: 2 },
+        Call::Find { delega: 1, subtype: 5, place: 3 },
+        Call::Correct { delega: 1, subtype: 5, place: 2, debit: 1, credit: 2 },
+        Call::Correct { delega: 1, subtype: 5, place: 2, debit: 0, credit: 0 },
+    ];
+    for flow in [&accepted[..], refused] {
+        for (call, nth) in calls.into_iter().zip(1..) {
+            trap::at(trap::ROOM, 0, nth);
+            comparer.compare_rooms(&mut rng, call, flow)?;
+        }
+    }
+    Ok(())
+}
+
 /// One flow: judged, then asked for its deleghe and lines.
 fn flow_case(comparer: &mut Comparer, pool: &Pool, seed: u64, index: u64, shapes: &mut Shapes) -> Compared<()> {
     let mut rng = Rng::new(seed, 1, index);
@@ -248,11 +285,11 @@ fn flow_case(comparer: &mut Comparer, pool: &Pool, seed: u64, index: u64, shapes
         let deleghe = room[0];
         shapes.count(room);
         let used: Vec<u64> = (0..5)
-            .filter(|&section| room[3 + 2 * section] + room[4 + 2 * section] > 0)
+            .filter(|&section| room[SUMS + 2 * section] + room[SUMS + 2 * section + 1] > 0)
             .map(|section| columns::SECTIONS[section].line)
             .collect();
         for number in 1..=deleghe.min(3) {
-            comparer.compare(&mut rng, Call::Delega { number }, &flow)?;
+            delega(comparer, &mut rng, number, &flow, shapes)?;
         }
         let number = match rng.below(4) {
             0 => 0,
@@ -260,7 +297,7 @@ fn flow_case(comparer: &mut Comparer, pool: &Pool, seed: u64, index: u64, shapes
             2 => rng.pick(&[u64::MAX, 1 << 32, (1 << 32) + 1, 10_000_001]),
             _ => rng.between(1, deleghe),
         };
-        comparer.compare(&mut rng, Call::Delega { number }, &flow)?;
+        delega(comparer, &mut rng, number, &flow, shapes)?;
         for _ in 0..4 {
             let delega = if rng.one_in(8) { number } else { rng.between(1, deleghe) };
             let subtype = if rng.one_in(8) { rng.below(20) } else { rng.pick(&used) };
@@ -283,7 +320,30 @@ fn flow_case(comparer: &mut Comparer, pool: &Pool, seed: u64, index: u64, shapes
         comparer.compare_short(&mut rng, call, &flow)?;
     }
     if code == 0 {
+        more_deleghe(comparer, &flow, (seed, index), shapes)?;
         probes(comparer, &flow, seed, index)?;
+    }
+    Ok(())
+}
+
+/// Asks an accepted flow for one delega.
+fn delega(comparer: &mut Comparer, rng: &mut Rng, number: u64, flow: &[u8], shapes: &mut Shapes) -> Compared<()> {
+    if comparer.compare(rng, Call::Delega { number }, flow)? == 0 {
+        shapes.sets.count(comparer.room());
+    }
+    Ok(())
+}
+
+/// The flow was accepted: where it has more than three deleghe, two others are
+/// asked for and the last.
+fn more_deleghe(comparer: &mut Comparer, flow: &[u8], (seed, index): (u64, u64), shapes: &mut Shapes) -> Compared<()> {
+    let tail = &flow[flow.len() - columns::RECORD..];
+    let deleghe = sound::get(tail, columns::TAIL_DELEGHE, columns::COUNT);
+    if deleghe > 3 {
+        let mut rng = Rng::new(seed, 15, index);
+        for number in [rng.between(4, deleghe), rng.between(4, deleghe), deleghe] {
+            delega(comparer, &mut rng, number, flow, shapes)?;
+        }
     }
     Ok(())
 }
@@ -358,16 +418,18 @@ fn correction_case(
     assert!(code == 0, "seed {seed}, correction {index}: the flow is refused {code} at the end");
     let anew = sound::write(&mut fillers(), pool, &plan).bytes;
     assert!(flow == anew, "seed {seed}, correction {index}: not the generator's flow of these lines");
-    Ok(())
+    let number = rng.between(1, plan.deleghe.len() as u64);
+    delega(comparer, &mut rng, number, &flow, shapes)
 }
 
-/// Accepted flows by size, by deleghe and by section, corrections made by what
-/// they changed, flows refused 7 by the character told, and flows by the date
-/// and the tax codes.
+/// Accepted flows by size, by deleghe, by lines and by section, corrections made
+/// by what they changed, flows refused 7 by the character told, flows by the date
+/// and the tax codes, and deleghe by their sets of sections.
 #[derive(Default)]
 struct Shapes {
     records: [u64; 6],
     deleghe: [u64; 5],
+    lines: [u64; 5],
     sections: [u64; 5],
     beyond_fifteen: u64,
     /// Changed nothing, changed no sign, P to N, N to P.
@@ -375,6 +437,7 @@ struct Shapes {
     sevens: Sevens,
     dates: Dates,
     codes: Codes,
+    sets: Sets,
 }
 
 impl Shapes {
@@ -394,10 +457,18 @@ impl Shapes {
             17..=64 => 3,
             _ => 4,
         }] += 1;
-        for (section, sums) in room[3..13].chunks(2).enumerate() {
+        self.lines[match room[3] {
+            0..=2 => 0,
+            3..=8 => 1,
+            9..=32 => 2,
+            33..=128 => 3,
+            _ => 4,
+        }] += 1;
+        let sums = &room[SUMS..MOST_NUMBERS];
+        for (section, sums) in sums.chunks(2).enumerate() {
             self.sections[section] += u64::from(sums[0] + sums[1] > 0);
         }
-        let beyond = room[3..13].iter().any(|&sum| sum > columns::MOST_AMOUNT);
+        let beyond = sums.iter().any(|&sum| sum > columns::MOST_AMOUNT);
         self.beyond_fifteen += u64::from(beyond);
     }
 
@@ -423,11 +494,13 @@ impl Shapes {
         println!("corrections made: {same} to the same amounts, {amounts} within a sign, {to_n} from P to N, {to_p} from N to P");
         line("records", &["7-8", "9-16", "17-64", "65-256", "257-545", "546"], &self.records);
         line("deleghe", &["1", "2-3", "4-16", "17-64", "65-108"], &self.deleghe);
+        line("lines", &["1-2", "3-8", "9-32", "33-128", "129-476"], &self.lines);
         line("section used", &["01", "03", "05", "07", "17"], &self.sections);
         println!("accepted flows with a section's sum of more than fifteen digits: {}", self.beyond_fifteen);
         self.sevens.print("judge");
         self.dates.print("judge");
         self.codes.print("judge");
+        self.sets.print("delega");
     }
 }
 

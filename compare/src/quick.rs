@@ -1,6 +1,6 @@
 //! The fast judge, answering as include/f24.h says that the library does.
 
-use crate::calls::{Call, NO_ROOM};
+use crate::calls::{Call, NO_ROOM, SUMS};
 use crate::rival::put_sums;
 use fast::{Refusal, Summary};
 
@@ -12,9 +12,9 @@ pub fn judge(flow: &[u8], room: &mut [u64]) -> u64 {
         return NO_ROOM;
     }
     match fast::judge(flow) {
-        Ok(Summary { deleghe, records, total, sums }) => {
-            room[..3].copy_from_slice(&[deleghe, records as u64, total]);
-            put_sums(&mut room[3..], &sums);
+        Ok(Summary { deleghe, records, total, lines, sums }) => {
+            room[..SUMS].copy_from_slice(&[deleghe, records as u64, total, lines]);
+            put_sums(&mut room[SUMS..], &sums);
             0
         }
         Err(Refusal { number, record, position }) => {

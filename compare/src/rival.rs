@@ -1,6 +1,6 @@
 //! The reference, answering as include/f24.h says that the library does.
 
-use crate::calls::{Call, NO_ROOM};
+use crate::calls::{Call, NO_ROOM, SUMS};
 use reference::Refusal;
 
 /// Makes a call on a flow and writes its answer into the room.
@@ -14,7 +14,8 @@ pub fn call(call: &Call, flow: &mut [u8], room: &mut [u64]) -> u64 {
                 room[0] = summary.deleghe;
                 room[1] = summary.records as u64;
                 room[2] = summary.total;
-                put_sums(&mut room[3..], &summary.sums);
+                room[3] = summary.lines;
+                put_sums(&mut room[SUMS..], &summary.sums);
                 return 0;
             }
             Err(refusal) => refusal,
@@ -22,7 +23,10 @@ pub fn call(call: &Call, flow: &mut [u8], room: &mut [u64]) -> u64 {
         Call::Delega { number } => match reference::delega(flow, number) {
             Ok(delega) => {
                 room[0] = delega.final_balance;
-                put_sums(&mut room[1..], &delega.sums);
+                room[1] = delega.lines;
+                room[2] = delega.set;
+                room[3] = delega.size;
+                put_sums(&mut room[SUMS..], &delega.sums);
                 return 0;
             }
             Err(refusal) => refusal,

@@ -2,6 +2,7 @@
 //! the expected output of a run program.
 
 use crate::columns::MOST_BYTES;
+use crate::frames;
 use crate::rng::Rng;
 use crate::sheet::Size;
 use crate::sheet_damage::{self, Case};
@@ -91,11 +92,9 @@ fn answered(case: &Case) -> usize {
 fn one(name: &str, case: &Case, data: &mut Vec<u8>, lines: &mut Vec<u8>) -> io::Result<()> {
     let mut room: Vec<u8> = (0..case.room).map(|at| 33 + (at % 90) as u8).collect();
     let answer = reference::write(&case.sheet, &mut room);
-    writeln!(data, "{name:<40} {:020} {:020} {:020} {:020} {:020} {:06}", case.room, 0, 0, 0, 0, case.sheet.len())?;
-    for part in [&case.sheet, &room] {
-        data.write_all(part)?;
-        data.write_all(b"\n")?;
-    }
+    frames::write_call(data, name, [case.room as u64, 0, 0, 0, 0], &case.sheet)?;
+    data.write_all(&room)?;
+    data.write_all(b"\n")?;
     writeln!(lines, "{name}")?;
     match answer {
         Ok(length) => {

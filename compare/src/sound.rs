@@ -206,33 +206,32 @@ pub fn empty(section: usize, lines: usize) -> SectionPlan {
 /// A delega whose lines have no amounts yet.
 pub fn shape(rng: &mut Rng, few: bool) -> DelegaPlan {
     let receipts = RECEIPTS[rng.place(3)];
-    if rng.one_in(4) {
-        let lines = if few {
-            rng.between(1, 3)
-        } else if rng.one_in(4) {
-            28
-        } else {
-            rng.between(1, 28)
-        };
-        return DelegaPlan { sections: vec![empty(IDENTIFYING, lines as usize)], receipts };
-    }
-    let used = if few { 1 << rng.below(4) | 1 << rng.below(4) } else { rng.between(1, 15) };
-    let mut sections = Vec::new();
-    for section in 0..IDENTIFYING {
-        if used >> section & 1 == 0 {
-            continue;
-        }
+    let set = if rng.one_in(4) {
+        1 << IDENTIFYING
+    } else if few {
+        1 << rng.below(4) | 1 << rng.below(4)
+    } else {
+        rng.between(1, 15)
+    };
+    DelegaPlan { sections: sections(rng, set, few), receipts }
+}
+
+/// The sections of a set, which has a bit for each, with lines that have no
+/// amounts yet.
+pub fn sections(rng: &mut Rng, set: u64, few: bool) -> Vec<SectionPlan> {
+    let used = (0..SECTIONS.len()).filter(|section| set >> section & 1 == 1);
+    used.map(|section| {
         let most = SECTIONS[section].most as u64;
         let lines = if few {
-            rng.between(1, 2)
+            rng.between(1, if section == IDENTIFYING { 3 } else { 2 })
         } else if rng.one_in(4) {
             most
         } else {
             rng.between(1, most)
         };
-        sections.push(empty(section, lines as usize));
-    }
-    DelegaPlan { sections, receipts }
+        empty(section, lines as usize)
+    })
+    .collect()
 }
 
 /// What a section's lines are to add up to, and which of them have a debit

@@ -8,6 +8,7 @@ pub const CORRECTION: u64 = 2;
 pub const SHEET: u64 = 3;
 pub const DATE: u64 = 4;
 pub const LINE: u64 = 5;
+pub const ROOM: u64 = 6;
 
 static KIND: AtomicU64 = AtomicU64::new(0);
 static SEED: AtomicU64 = AtomicU64::new(0);
@@ -44,10 +45,11 @@ extern "C" fn trapped(number: i32) {
         SHEET => b": sheet ",
         DATE => b": date ",
         LINE => b": line ",
+        ROOM => b": rooms of every length, call ",
         _ => b": correction ",
     });
     say_number(INDEX.load(Relaxed));
-    if !matches!(KIND.load(Relaxed), DATE | LINE) {
+    if !matches!(KIND.load(Relaxed), DATE | LINE | ROOM) {
         say(b" of seed ");
         say_number(SEED.load(Relaxed));
         say(b" (once more: again SEED flow|correction|sheet INDEX)");

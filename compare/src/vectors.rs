@@ -75,10 +75,9 @@ pub fn write(seed: u64, count: u64, flows: &str, stdout: &str) -> io::Result<()>
 pub fn print(out: &mut impl Write, flow: &[u8]) -> io::Result<usize> {
     match reference::judge(flow) {
         Ok(summary) => {
-            writeln!(out, "ACCEPTED {} {} {}", summary.deleghe, summary.records, summary.total)?;
-            for (line, (debit, credit)) in ["01", "03", "05", "07", "17"].iter().zip(summary.sums) {
-                writeln!(out, "{line} {debit} {credit}")?;
-            }
+            let reference::Summary { deleghe, records, total, lines, sums } = summary;
+            writeln!(out, "ACCEPTED {deleghe} {records} {total} {lines}")?;
+            print_sections(out, &sums)?;
             Ok(0)
         }
         Err(refusal) => {
@@ -86,4 +85,12 @@ pub fn print(out: &mut impl Write, flow: &[u8]) -> io::Result<usize> {
             Ok(usize::from(refusal.number))
         }
     }
+}
+
+/// A line for each of the five sections.
+pub fn print_sections(out: &mut impl Write, sums: &[(u64, u64); 5]) -> io::Result<()> {
+    for (subtype, (debit, credit)) in ["01", "03", "05", "07", "17"].iter().zip(sums) {
+        writeln!(out, "{subtype} {debit} {credit}")?;
+    }
+    Ok(())
 }

@@ -1,7 +1,8 @@
 //! A judge for CBI F24 payment flows, written for speed, after the rules of
 //! document 01 with the columns of CBI-F24-001. Words in quotation marks are
 //! those rules'. Refusal 7 points where document 02 has it point, a date is
-//! what 02 says that it is, and so is the taxpayer's code.
+//! what 02 says that it is, and so is the taxpayer's code; the answer has 02's
+//! line count.
 //!
 //! The records are gone through as the grammar says: head, deleghe with
 //! sections of lines, tail. Each is compared with the few that may stand
@@ -40,6 +41,8 @@ pub struct Summary {
     pub records: usize,
     /// Sum of the final balances.
     pub total: u64,
+    /// Line records.
+    pub lines: u64,
     /// Debit and credit, in the order 01, 03, 05, 07, 17.
     pub sums: [(u64, u64); 5],
 }

@@ -28,6 +28,7 @@ impl Walk<'_> {
         let credits = if section.credit_allowed { credits } else { 0 };
         judge_balance::<INDEX>(record, debits, credits)?;
         self.pass();
+        self.others += 1;
         self.debits += debits;
         self.credits += credits;
         self.sums[INDEX].0 += debits;

@@ -131,7 +131,7 @@ fn assert_refused(flow: &[u8], number: u8, record: usize, position: usize) {
 #[test]
 fn the_printed_example() {
     let sums = [(0, 0), (0, 0), (10_000, 2500), (0, 0), (0, 0)];
-    assert_eq!(judge(&example()), Ok(Summary { deleghe: 1, records: 8, total: 7500, sums }));
+    assert_eq!(judge(&example()), Ok(Summary { deleghe: 1, records: 8, total: 7500, lines: 2, sums }));
 }
 
 #[test]
@@ -180,7 +180,7 @@ const FIELDS: [&[(usize, usize)]; 20] = [
 #[test]
 fn the_very_character() {
     let sound = every_kind();
-    assert_eq!(judge(&sound).map(|summary| summary.records), Ok(20));
+    assert_eq!(judge(&sound).map(|summary| (summary.records, summary.lines)), Ok((20, 5)));
     for (record, fields) in (1..).zip(FIELDS) {
         let positions: Vec<usize> = fields.iter().flat_map(|&(start, width)| start..start + width).collect();
         for (index, &first) in positions.iter().enumerate() {
@@ -224,6 +224,40 @@ fn lines_beyond_the_most() {
 }
 
 #[test]
+fn lines_of_the_flow() {
+    let lines = |flow: &[u8]| judge(flow).unwrap().lines;
+    for (subtype, most) in [(1, 6), (3, 4), (5, 4), (7, 4), (17, 28)] {
+        for count in 1..=most {
+            assert_eq!(lines(&one(subtype, &vec![(1, 0); count])), count as u64);
+        }
+    }
+    // Every set of the first four sections, which have one line, two, three and
+    // four, each set followed by five lines of section 17. Each of the four is
+    // in eight of the fifteen sets.
+    const SECTIONS: [Section; 4] =
+        [(1, &[(1, 0)]), (3, &[(2, 1); 2]), (5, &[(0, 1), (1, 1), (5, 0)]), (7, &[(1, 0); 4])];
+    const IDENTIFYING: &[Section] = &[(17, &[(1, 0); 5])];
+    let sets: Vec<Vec<Section>> = (1..16)
+        .map(|set| (0..4).filter(|section| set >> section & 1 == 1).map(|section| SECTIONS[section]).collect())
+        .collect();
+    for (set, expected) in sets.iter().zip([1, 2, 3, 3, 4, 5, 6, 4, 5, 6, 7, 7, 8, 9, 10]) {
+        assert_eq!(lines(&flow(&[set])), expected);
+        assert_eq!(lines(&flow(&[set, IDENTIFYING, set])), 2 * expected + 5);
+    }
+    let all: Vec<&[Section]> = sets.iter().flat_map(|set| [&set[..], IDENTIFYING]).collect();
+    assert_eq!(lines(&flow(&all)), 8 * (1 + 2 + 3 + 4) + 15 * 5);
+    // Receipts are no lines: with both of them, with the first alone, with none.
+    let mut flow = every_kind();
+    assert_eq!(lines(&flow), 5);
+    for receipt in [14, 13] {
+        flow.drain((receipt - 1) * RECORD..receipt * RECORD);
+        let records = flow.len() / RECORD;
+        flow = with(flow, records, 83, &format!("{records:07}"));
+        assert_eq!(lines(&flow), 5);
+    }
+}
+
+#[test]
 fn line_amounts() {
     for (subtype, debit_at) in [(1, 27), (3, 52), (5, 29), (7, 31), (17, 41)] {
         assert_refused(&one(subtype, &[(5, 0), (0, 0)]), 9, 5, debit_at);
@@ -238,7 +272,7 @@ fn lengths() {
     let mut longest = longest();
     assert_eq!(longest.len(), 65_520);
     let summary = judge(&longest).unwrap();
-    assert_eq!((summary.deleghe, summary.records, summary.total), (108, 546, 112));
+    assert_eq!((summary.deleghe, summary.records, summary.total, summary.lines), (108, 546, 112, 112));
     longest.push(b' ');
     assert_refused(&longest, 1, 0, 0);
     assert_refused(&[b' '; 119], 2, 0, 0);

@@ -25,7 +25,7 @@ pub fn judge(flow: &[u8]) -> Result<Summary, Refusal> {
     let judged = walk.judge();
     let records = walk.passed() / RECORD;
     match judged {
-        Ok(()) => Ok(Summary { deleghe: walk.deleghe, records, total: walk.total, sums: walk.sums }),
+        Ok(()) => Ok(walk.summary(records)),
         Err(fault) => Err(refusal(fault, records + 1)),
     }
 }
@@ -46,6 +46,8 @@ pub struct Walk<'a> {
     pub credits: u64,
     /// Sum of the final balances.
     pub total: u64,
+    /// Balance records and receipts.
+    pub others: u64,
     /// Debits and credits of the five sections over the flow.
     pub sums: [(u64, u64); 5],
 }
@@ -62,8 +64,17 @@ impl<'a> Walk<'a> {
             debits: 0,
             credits: 0,
             total: 0,
+            others: 0,
             sums: [(0, 0); 5],
         }
+    }
+
+    /// The answer to a flow of so many records, all of which have passed. Lines
+    /// are those that are left without head and tail, 10, 20 and 50-01 of each
+    /// delega, balance records and receipts.
+    fn summary(&self, records: usize) -> Summary {
+        let lines = records as u64 - 2 - 3 * self.deleghe - self.others;
+        Summary { deleghe: self.deleghe, records, total: self.total, lines, sums: self.sums }
     }
 
     /// Bytes of the records that have passed.
@@ -213,10 +224,12 @@ impl<'a> Walk<'a> {
         if !self.number.is_in_part(self.front()?, FIFTY, *b"02") {
             return Ok(Kind::Payment);
         }
+        self.others += 1;
         self.pass();
         if !self.number.is_in_part(self.front()?, FIFTY, *b"03") {
             return Ok(Kind::Receipt);
         }
+        self.others += 1;
         self.pass();
         Ok(Kind::Addressee)
     }

@@ -42,6 +42,20 @@ pub struct Fault {
     pub position: usize,
 }
 
+/// What a delega uses. Document 02: "the number of lines, and for each delega
+/// how many of the five sections it uses and which".
+#[derive(Clone, Copy, PartialEq, Eq, Debug, Default)]
+pub struct Usage {
+    /// Its line records.
+    pub lines: u64,
+    /// "that set as one number (1, 2, 4, 8, 16 added, in 01's order)", made from
+    /// the line records.
+    pub set: u64,
+    /// "and its size": its balance records, since "A section is one or more
+    /// lines and then its balance record".
+    pub size: u64,
+}
+
 /// The state after the records judged so far.
 pub struct Judgement {
     pub step: Step,
@@ -53,8 +67,12 @@ pub struct Judgement {
     pub amounts: (u64, u64),
     /// Section sums of the open delega.
     pub delega: Sums,
+    /// Lines and sections of the open delega.
+    pub usage: Usage,
     /// Section sums over the flow.
     pub flow: Sums,
+    /// Lines of the flow.
+    pub flow_lines: u64,
     /// Sum of the final balances.
     pub total: u64,
     /// The head's support name.
@@ -70,7 +88,9 @@ impl Judgement {
             lines: 0,
             amounts: (0, 0),
             delega: Sums::default(),
+            usage: Usage::default(),
             flow: Sums::default(),
+            flow_lines: 0,
             total: 0,
             name: [b' '; NAME_WIDTH],
         }
@@ -122,8 +142,9 @@ impl Judgement {
         // Document 02: "26 at the field's start, after 8 in the same record."
         ensure(codes::valid(&code(record)), 26, CODE)?;
 
-        // "Sums start at zero for every delega."
+        // "Sums start at zero for every delega.", and so does what it uses.
         self.delega = Sums::default();
+        self.usage = Usage::default();
         Ok(())
     }
 
@@ -145,6 +166,9 @@ impl Judgement {
         let sums = &mut self.delega[index];
         sums.0 += debit;
         sums.1 += credit;
+        self.flow_lines += 1;
+        self.usage.lines += 1;
+        self.usage.set |= 1 << index;
         Ok(())
     }
 
@@ -179,6 +203,7 @@ impl Judgement {
     pub fn close_section(&mut self, index: usize) {
         let (debits, credits) = self.delega[index];
         self.lines = 0;
+        self.usage.size += 1;
         self.flow[index].0 += debits;
         self.flow[index].1 += credits;
     }

@@ -1,7 +1,8 @@
 //! A judge for CBI F24 payment flows, after the rules of document 01, with
 //! the columns of CBI-F24-001. Words in quotation marks are those rules'. The
 //! writer of flows from working sheets is after document 02, and so are the
-//! position of refusal 7 and the date rule, which 02 amends, and refusal 26.
+//! position of refusal 7 and the date rule, which 02 amends, refusal 26, and
+//! the lines and sections of a summary.
 //!
 //! Every input is taken, of every length and value. Sums can't overflow: a
 //! flow has at most 546 records with amounts below 10^15.
@@ -18,7 +19,7 @@ mod sheets;
 mod tests;
 
 use digits::{non_digit, write_fifteen};
-use judgement::{Fault, Judgement, Step};
+use judgement::{Fault, Judgement, Step, Usage};
 use layout::*;
 pub use sheets::write;
 // The comparison asks for more of a refusal than the command line.
@@ -77,20 +78,32 @@ impl std::error::Error for Refusal {}
 
 /// "An accepted flow answers the number of deleghe, the number of records, the
 /// sum of final balances, and the debit and credit sums for each of the five
-/// sections over the flow."
+/// sections over the flow." Document 02: "The summary of a flow, and of one
+/// delega, gains the line count".
 #[derive(Clone, Copy, PartialEq, Eq, Debug)]
 pub struct Summary {
     pub deleghe: u64,
     pub records: usize,
     pub total: u64,
+    /// Line records over the flow.
+    pub lines: u64,
     /// Debit and credit, in the order 01, 03, 05, 07, 17.
     pub sums: [(u64, u64); 5],
 }
 
 /// "For one delega its final balance and its ten section sums are given".
+/// Document 02 adds the line count, and "which" of the sections it uses, "that
+/// set as one number (1, 2, 4, 8, 16 added, in 01's order) and its size".
 #[derive(Clone, Copy, PartialEq, Eq, Debug)]
-pub struct DelegaSums {
+pub struct DelegaSummary {
     pub final_balance: u64,
+    /// Its line records.
+    pub lines: u64,
+    /// The sections that it has lines of: Erario 1, INPS 2, Regioni 4, IMU 8,
+    /// identifying elements 16, added.
+    pub set: u64,
+    /// How many they are.
+    pub size: u64,
     /// Debit and credit, in the order 01, 03, 05, 07, 17.
     pub sums: [(u64, u64); 5],
 }
@@ -100,12 +113,13 @@ pub fn judge(flow: &[u8]) -> Result<Summary, Refusal> {
     judge_watched(flow, |_| ())
 }
 
-/// The sums of one delega: "a number that is 0 or above the count is refused 21".
-pub fn delega(flow: &[u8], number: u64) -> Result<DelegaSums, Refusal> {
+/// The summary of one delega: "a number that is 0 or above the count is refused
+/// 21".
+pub fn delega(flow: &[u8], number: u64) -> Result<DelegaSummary, Refusal> {
     let mut found = None;
     judge_watched(flow, |judgement| {
         if judgement.step == Step::Payment && judgement.deleghe == number {
-            found = delega_sums(judgement.delega);
+            found = delega_summary(judgement);
         }
     })?;
     found.ok_or(Refusal::nowhere(21))
@@ -145,12 +159,12 @@ pub fn correct(
     *credits = *credits - old_credit + credit;
     let (debits, credits) = (*debits, *credits);
 
-    let new = delega_sums(sums).ok_or(Refusal::nowhere(14))?;
+    let due = final_balance(&sums).ok_or(Refusal::nowhere(14))?;
     let balance = debits.abs_diff(credits);
-    let total = summary.total - found.delega.final_balance + new.final_balance;
+    let total = summary.total - found.delega.final_balance + due;
 
     let totals_fit = section.totals_at.is_none() || debits.max(credits) <= MOST_AMOUNT;
-    let others_fit = [balance, new.final_balance, total]
+    let others_fit = [balance, due, total]
         .iter()
         .all(|&value| value <= MOST_AMOUNT);
     if !totals_fit || !others_fit {
@@ -172,11 +186,7 @@ pub fn correct(
     closing[section.sign_at - 1] = sign(debits, credits);
     write_fifteen(closing, section.balance_at, balance);
 
-    write_fifteen(
-        record_mut(flow, found.payment),
-        FINAL_BALANCE,
-        new.final_balance,
-    );
+    write_fifteen(record_mut(flow, found.payment), FINAL_BALANCE, due);
     write_fifteen(record_mut(flow, summary.records), TAIL_SUM, total);
     Ok(())
 }
@@ -212,6 +222,7 @@ fn judge_watched(flow: &[u8], mut watch: impl FnMut(&Judgement)) -> Result<Summa
         deleghe: judgement.deleghe,
         records: judgement.records,
         total: judgement.total,
+        lines: judgement.flow_lines,
         sums: judgement.flow,
     })
 }
@@ -223,7 +234,7 @@ struct Located {
     amounts: (u64, u64),
     balance: usize,
     payment: usize,
-    delega: DelegaSums,
+    delega: DelegaSummary,
 }
 
 /// "Every call on a flow judges it first and gives that refusal if there is
@@ -249,31 +260,36 @@ fn locate(
                 line = Some((index, judgement.records, judgement.amounts));
             }
             Step::Balance(index) if Some(index) == section => balance = Some(judgement.records),
-            Step::Payment => payment = Some((judgement.records, judgement.delega)),
+            Step::Payment => payment = Some((judgement.records, delega_summary(judgement))),
             _ => (),
         }
     })?;
     let located = || {
         let (section, line, amounts) = line?;
-        let (payment, sums) = payment?;
+        let (payment, delega) = payment?;
         Some(Located {
             section,
             line,
             amounts,
             balance: balance?,
             payment,
-            delega: delega_sums(sums)?,
+            delega: delega?,
         })
     };
     let located = located().ok_or(Refusal::nowhere(21))?;
     Ok((summary, located))
 }
 
-/// A delega's sums with its final balance, or `None` if that is negative.
-fn delega_sums(sums: Sums) -> Option<DelegaSums> {
-    final_balance(&sums).map(|final_balance| DelegaSums {
-        final_balance,
-        sums,
+/// The open delega's summary, or `None` if its balance is negative.
+fn delega_summary(judgement: &Judgement) -> Option<DelegaSummary> {
+    let Usage { lines, set, size } = judgement.usage;
+    debug_assert_eq!(u64::from(set.count_ones()), size);
+    Some(DelegaSummary {
+        final_balance: final_balance(&judgement.delega)?,
+        lines,
+        set,
+        size,
+        sums: judgement.delega,
     })
 }
 

@@ -3,7 +3,7 @@
 #[path = "lib.rs"]
 mod f24;
 
-use f24::{DelegaSums, Refusal, Summary};
+use f24::{DelegaSummary, Refusal, Summary};
 use std::ffi::OsString;
 use std::fs::{self, File};
 use std::io::{self, BufWriter, Read, Write};
@@ -172,9 +172,10 @@ fn print_judgement(out: &mut impl Write, answer: Result<Summary, Refusal>) -> io
                 deleghe,
                 records,
                 total,
+                lines,
                 sums,
             } = summary;
-            writeln!(out, "ACCEPTED {deleghe} {records} {total}")?;
+            writeln!(out, "ACCEPTED {deleghe} {records} {total} {lines}")?;
             print_sections(out, &sums)
         }
         Err(refusal) => writeln!(out, "{refusal}"),
@@ -184,14 +185,18 @@ fn print_judgement(out: &mut impl Write, answer: Result<Summary, Refusal>) -> io
 fn print_delega(
     out: &mut impl Write,
     number: u64,
-    answer: Result<DelegaSums, Refusal>,
+    answer: Result<DelegaSummary, Refusal>,
 ) -> io::Result<()> {
     match answer {
-        Ok(DelegaSums {
-            final_balance,
-            sums,
-        }) => {
-            writeln!(out, "DELEGA {number} {final_balance}")?;
+        Ok(summary) => {
+            let DelegaSummary {
+                final_balance,
+                lines,
+                set,
+                size,
+                sums,
+            } = summary;
+            writeln!(out, "DELEGA {number} {final_balance} {lines} {set} {size}")?;
             print_sections(out, &sums)
         }
         Err(refusal) => writeln!(out, "{refusal}"),
@@ -242,11 +247,12 @@ mod tests {
             deleghe: 1,
             records: 8,
             total: 7500,
+            lines: 2,
             sums: [(0, 0), (0, 0), (10000, 2500), (0, 0), (0, 0)],
         };
         assert_eq!(
             printed(Ok(summary)),
-            "ACCEPTED 1 8 7500\n01 0 0\n03 0 0\n05 10000 2500\n07 0 0\n17 0 0\n"
+            "ACCEPTED 1 8 7500 2\n01 0 0\n03 0 0\n05 10000 2500\n07 0 0\n17 0 0\n"
         );
     }
 
@@ -262,15 +268,18 @@ mod tests {
         print_delega(
             &mut out,
             12,
-            Ok(DelegaSums {
+            Ok(DelegaSummary {
                 final_balance: 5,
+                lines: 7,
+                set: 9,
+                size: 2,
                 sums,
             }),
         )
         .unwrap();
         assert_eq!(
             out,
-            b"DELEGA 12 5\n01 1 2\n03 3 4\n05 5 6\n07 7 8\n17 9 0\n"
+            b"DELEGA 12 5 7 9 2\n01 1 2\n03 3 4\n05 5 6\n07 7 8\n17 9 0\n"
         );
     }
 

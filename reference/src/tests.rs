@@ -246,9 +246,18 @@ fn the_printed_example() {
         deleghe: 1,
         records: 8,
         total: 7500,
+        lines: 2,
         sums: [(0, 0), (0, 0), (10000, 2500), (0, 0), (0, 0)],
     };
     assert_eq!(judge(&example()), Ok(summary));
+    let delega_summary = DelegaSummary {
+        final_balance: 7500,
+        lines: 2,
+        set: 4,
+        size: 1,
+        sums: summary.sums,
+    };
+    assert_eq!(delega(&example(), 1), Ok(delega_summary));
 }
 
 #[test]
@@ -304,6 +313,7 @@ fn lengths() {
         (summary.deleghe, summary.records, summary.total),
         (108, 546, 112)
     );
+    assert_eq!(summary.lines, 107 + 5);
 
     longest.push(b' ');
     assert_refused(&longest, 1, 0, 0);
@@ -471,6 +481,11 @@ fn receipts_are_judged_by_number_alone() {
         (summary.deleghe, summary.records, summary.total),
         (3, 20, 15)
     );
+    // Nor are they lines.
+    assert_eq!(summary.lines, 3);
+    for number in 1..=3 {
+        assert_eq!(used(&flow, number), (1, 8, 1));
+    }
     assert_refused(&with(flow.clone(), 18, 4, "000000 "), 7, 18, 10);
     assert_refused(&with(flow.clone(), 19, 4, "00 0000"), 7, 19, 6);
     assert_refused(&with(flow.clone(), 18, 4, "0000002"), 8, 18, 4);
@@ -1030,6 +1045,177 @@ fn every_call_judges_the_code() {
     }
 }
 
+// ------------------------------------------------------ lines and sections
+
+/// Line count, set of sections and its size.
+type Used = (u64, u64, u64);
+
+/// Those of a delega that is there.
+#[track_caller]
+fn used(flow: &[u8], number: u64) -> Used {
+    let summary = delega(flow, number).expect("a delega of a sound flow");
+    (summary.lines, summary.set, summary.size)
+}
+
+/// What a section with this line subtype adds to a set.
+fn bit(subtype: u64) -> u64 {
+    match subtype {
+        1 => 1,
+        3 => 2,
+        5 => 4,
+        7 => 8,
+        17 => 16,
+        _ => panic!("{subtype} is no line subtype"),
+    }
+}
+
+/// One Erario line, two of INPS, three of Regioni, four of IMU, five of
+/// identifying elements.
+const ERARIO: Built = (1, &[(1, 0)]);
+const INPS: Built = (3, &[(1, 0), (2, 1)]);
+const REGIONI: Built = (5, &[(1, 0), (1, 1), (0, 1)]);
+const IMU: Built = (7, &[(1, 0), (1, 0), (5, 6), (9, 0)]);
+const IDENTIFYING_ELEMENTS: Built = (17, &[(1, 0), (2, 0), (3, 0), (4, 0), (5, 0)]);
+
+/// Every set that a delega can have, in the order of its number, with the line
+/// count and the size beside it.
+const SETS: [(&[Built], Used); 16] = [
+    (&[ERARIO], (1, 1, 1)),
+    (&[INPS], (2, 2, 1)),
+    (&[ERARIO, INPS], (3, 3, 2)),
+    (&[REGIONI], (3, 4, 1)),
+    (&[ERARIO, REGIONI], (4, 5, 2)),
+    (&[INPS, REGIONI], (5, 6, 2)),
+    (&[ERARIO, INPS, REGIONI], (6, 7, 3)),
+    (&[IMU], (4, 8, 1)),
+    (&[ERARIO, IMU], (5, 9, 2)),
+    (&[INPS, IMU], (6, 10, 2)),
+    (&[ERARIO, INPS, IMU], (7, 11, 3)),
+    (&[REGIONI, IMU], (7, 12, 2)),
+    (&[ERARIO, REGIONI, IMU], (8, 13, 3)),
+    (&[INPS, REGIONI, IMU], (9, 14, 3)),
+    (&[ERARIO, INPS, REGIONI, IMU], (10, 15, 4)),
+    (&[IDENTIFYING_ELEMENTS], (5, 16, 1)),
+];
+
+#[test]
+fn every_set_alone() {
+    for (sections, expected) in SETS {
+        let flow = whole(&[sections]);
+        assert_eq!(used(&flow, 1), expected);
+        assert_eq!(judge(&flow).unwrap().lines, expected.0);
+    }
+}
+
+#[test]
+fn every_set_in_one_flow() {
+    // In the order of their numbers, the other way round, and each twice.
+    let there = SETS.to_vec();
+    let back: Vec<_> = SETS.into_iter().rev().collect();
+    let twice: Vec<_> = SETS.into_iter().flat_map(|delega| [delega; 2]).collect();
+    for (deleghe, times) in [(there, 1), (back, 1), (twice, 2)] {
+        let sections: Vec<&[Built]> = deleghe.iter().map(|delega| delega.0).collect();
+        let flow = whole(&sections);
+        for (number, (_, expected)) in (1..).zip(deleghe) {
+            assert_eq!(used(&flow, number), expected);
+        }
+        // Each of the four sections is in eight sets, with 1, 2, 3 and 4 lines,
+        // and section 17 in one, with 5: 85 lines and 33 balance records.
+        let summary = judge(&flow).unwrap();
+        assert_eq!(summary.lines, 85 * times);
+        assert_eq!(summary.deleghe, 16 * times);
+        assert_eq!(summary.records as u64, 2 + (16 * 3 + 85 + 33) * times);
+    }
+}
+
+#[test]
+fn nothing_is_carried_over_to_the_next_delega() {
+    for (before, _) in SETS {
+        for (sections, expected) in SETS {
+            let flow = whole(&[before, sections, before]);
+            assert_eq!(used(&flow, 2), expected);
+        }
+    }
+}
+
+#[test]
+fn more_lines_than_sections() {
+    for (subtype, most) in [(1, 6), (3, 4), (5, 4), (7, 4), (17, 28)] {
+        for lines in 1..=most {
+            let flow = one(subtype, &vec![(1, 0); lines]);
+            assert_eq!(used(&flow, 1), (lines as u64, bit(subtype), 1));
+            assert_eq!(judge(&flow).unwrap().lines, lines as u64);
+        }
+    }
+    // As many as the four can have together.
+    let four = [6, 4, 4, 4].map(|most| vec![(1, 0); most]);
+    let [erario, inps, regioni, imu] = &four;
+    let full: &[Built] = &[(1, erario), (3, inps), (5, regioni), (7, imu)];
+    let flow = whole(&[full, full]);
+    for number in [1, 2] {
+        assert_eq!(used(&flow, number), (18, 15, 4));
+    }
+    assert_eq!(judge(&flow).unwrap().lines, 36);
+}
+
+#[test]
+fn a_line_counts_whatever_its_amounts_are() {
+    // A debit, a credit, and both alike; in all the delega nothing is left.
+    let flow = whole(&[&[
+        (1, &[(9, 0)]),
+        (3, &[(0, 4)]),
+        (5, &[(5, 5)]),
+        (7, &[(0, 5)]),
+    ]]);
+    assert_eq!(judge(&flow).unwrap().total, 0);
+    assert_eq!(used(&flow, 1), (4, 15, 4));
+}
+
+#[test]
+fn corrections_change_no_count_and_no_set() {
+    let mut flow = three();
+    for (delega, subtype, place, debit, credit) in [
+        (1, 7, 1, 30, 0),
+        (1, 1, 1, 0, 1),
+        (2, 17, 2, 1, 0),
+        (3, 5, 1, 3, 3),
+    ] {
+        let answer = correct(&mut flow, delega, subtype, place, debit, credit);
+        assert_eq!(answer, Ok(()));
+        assert_eq!(used(&flow, 1), (3, 9, 2));
+        assert_eq!(used(&flow, 2), (2, 16, 1));
+        assert_eq!(used(&flow, 3), (1, 4, 1));
+        assert_eq!(judge(&flow).unwrap().lines, 6);
+    }
+}
+
+#[test]
+fn lines_and_sections_at_random() {
+    let mut dice = Dice(9);
+    let mut seen = [false; 17];
+    for _ in 0..400 {
+        let deleghe: Vec<_> = (0..=dice.below(6)).map(|_| dice.delega()).collect();
+        let flow = rebuilt(&deleghe);
+        let summary = match judge(&flow) {
+            Ok(summary) => summary,
+            Err(_) => continue,
+        };
+        let mut lines = 0;
+        for (number, sections) in (1..).zip(&deleghe) {
+            let of_delega: usize = sections.iter().map(|(_, lines)| lines.len()).sum();
+            let set: u64 = sections.iter().map(|&(subtype, _)| bit(subtype)).sum();
+            let size = sections.len() as u64;
+            assert_eq!(used(&flow, number), (of_delega as u64, set, size));
+            assert_eq!(u64::from(set.count_ones()), size);
+            lines += of_delega as u64;
+            seen[set as usize] = true;
+        }
+        // That of the flow is the sum over its deleghe.
+        assert_eq!(summary.lines, lines);
+    }
+    assert!(seen[1..].iter().all(|&seen| seen));
+}
+
 // ------------------------------------------------------------------- calls
 
 /// Records: 1 F4; 2-9 delega 1 with 40-01 at 4, 5 and 40-07 at 7;
@@ -1043,23 +1229,28 @@ fn three() -> Vec<u8> {
 }
 
 #[test]
-fn sums_of_one_delega() {
+fn the_summary_of_one_delega() {
     let flow = three();
     let none = (0, 0);
+    // The sets are Erario and IMU, 1 + 8; identifying elements, 16; Regioni, 4.
     let expected = [
-        (700, [(750, 20), none, none, (0, 30), none]),
-        (100, [none, none, none, none, (100, 0)]),
-        (5, [none, none, (8, 3), none, none]),
+        (700, (3, 9, 2), [(750, 20), none, none, (0, 30), none]),
+        (100, (2, 16, 1), [none, none, none, none, (100, 0)]),
+        (5, (1, 4, 1), [none, none, (8, 3), none, none]),
     ];
-    for (number, (final_balance, sums)) in (1..).zip(expected) {
+    for (number, (final_balance, (lines, set, size), sums)) in (1..).zip(expected) {
         assert_eq!(
             delega(&flow, number),
-            Ok(DelegaSums {
+            Ok(DelegaSummary {
                 final_balance,
+                lines,
+                set,
+                size,
                 sums
             })
         );
     }
+    assert_eq!(judge(&flow).unwrap().lines, 6);
     for number in [0, 4, u64::MAX] {
         assert_eq!(delega(&flow, number), Err(refused(21, 0, 0)));
     }

@@ -1,19 +1,20 @@
--- A corrected flow is accepted with the sums of its lines, and so is every flow that a series of calls leaves.
-use Prim.Native.Nat.{ℕ}
+-- A corrected flow is accepted with the sums of its lines, of which there are as many, and so is every flow that a series of calls leaves.
+use Prim.Native.Nat.{ℕ, _+_}
 use mathlib.Core.Path.{_≡_, refl, sym, ap, _∙_}
 use mathlib.Core.Bool.{false≢true}
 use mathlib.Core.List.{List, [], _∷_, _++_}
 use native.Mathlib.Omega.{arith}
 use lib.ListN.{length}
 use Rattle.layout.specs.declared.Kind.the-variants.{Line}
-use Rattle.layout.specs.Kinds.{kindIn}
+use Rattle.layout.specs.Kinds.{ofLine, kindIn}
 use Rattle.rules.specs.State.{startState}
 use Rattle.order.specs.Order.{stands}
 use Rattle.judge.specs.declared.Verdict.the-variants.{Accepted}
 use Rattle.judge.specs.declared.Judgement.{Judgement}
 use Rattle.judge.specs.Flow.{acceptedWith, recordsOf, headNameOf, judged}
-use Rattle.judge.specs.Plain.{Whole, stateAfter}
+use Rattle.judge.specs.Plain.{sumOver, lineCountIn, Whole, stateAfter}
 use Rattle.judge.proofs.Accepted.{accepted-means-no-fault}
+use Rattle.judge.proofs.Counts.{lines-after, accepted-lines}
 use Rattle.rebalance.specs.Rebalance.{flat, Mendable}
 use Rattle.rebalance.proofs.Emit.{kept-stands}
 use Rattle.rebalance.proofs.Flat.{name-in-front}
@@ -23,9 +24,9 @@ use Rattle.correct.specs.declared.Correction.{Correction}
 use Rattle.correct.specs.declared.Correction.the-variants.{Made, Refused}
 use Rattle.correct.specs.Correction.{sectionOf, refreshed, correctionOf, correctedBytes}
 use Rattle.correct.specs.Effect.{withAmounts, Call, after}
-use Rattle.correct.proofs.Amended.{amended}
+use Rattle.correct.proofs.Amended.{amended, kind-amended}
 use Rattle.correct.proofs.Mended.{mended-amended}
-use Rattle.correct.proofs.Split.{Split, line-splits, replaced-flat, records-replaced, length-replaced}
+use Rattle.correct.proofs.Split.{Split, line-splits, length-here, within-table, replaced-flat, records-replaced, length-replaced}
 use Rattle.correct.proofs.Answered.{Passed}
 use Rattle.correct.proofs.Conditions.{made-passed, made-bytes, refused-untouched}
 
@@ -39,6 +40,12 @@ name-behind name (z ∷ xs) r t ys s e m = name-in-front z _ (m .0) ∙ sym (nam
 module _ (f : List ℕ) (a : judged f .verdict ≡ Accepted) where
   pub accepted-whole : Whole f
   accepted-whole = accepted-means-no-fault f a .whole
+
+-- Records of which one is replaced by another of its kind have as many lines.
+lines-replaced : (xs : List (List ℕ)) (r t : List ℕ) (ys : List (List ℕ)) → kindIn t ≡ kindIn r → lineCountIn (xs ++ (t ∷ ys)) ≡ lineCountIn (xs ++ (r ∷ ys))
+unfolding sumOver
+lines-replaced [] r t ys e = rw e
+lines-replaced (z ∷ xs) r t ys e = ap (λ (n : ℕ). ofLine 0 (λ s. 1) (kindIn z) + n) (lines-replaced xs r t ys e)
 
 -- A correction that may be made.
 module _ (f : List ℕ) (d subtype n x y : ℕ) (m : Passed f d subtype n x y) where
@@ -86,6 +93,20 @@ module _ (f : List ℕ) (d subtype n x y : ℕ) (m : Passed f d subtype n x y) w
   unfolding refreshed
   refreshed-accepted = judged-rebalanced t amounts-whole (rw same-name new-mends)
 
+  -- It has as many lines.
+  pub refreshed-lines : judged (refreshed t) .summary .lines ≡ judged f .summary .lines
+  refreshed-lines =
+      let k = kind-amended (sectionOf subtype) (within-table f (w .even) p) (p .here) (length-here f (w .even) p) x y in
+      ap (λ (j : Judgement). j .summary .lines) refreshed-accepted
+      ∙ omega (
+        arith,
+        lines-after (recordsOf t),
+        ap lineCountIn records,
+        lines-replaced (p .before) (p .here) (amended (sectionOf subtype) x y (p .here)) (p .behind) k,
+        ap lineCountIn (p .split),
+        accepted-lines f (m .accepted),
+      )
+
   -- It has as many bytes.
   pub refreshed-length : length (refreshed t) ≡ length f
   unfolding refreshed
@@ -102,6 +123,10 @@ corrected-length f d subtype n x y = go (correctionOf f d subtype n x y) refl
 -- A corrected flow is accepted, with the sums of its lines.
 pub corrected-accepted : (f : List ℕ) (d subtype n x y : ℕ) → correctionOf f d subtype n x y ≡ Made → judged (correctedBytes f d subtype n x y) ≡ acceptedWith (stateAfter startState (recordsOf (withAmounts f d subtype n x y)))
 corrected-accepted f d subtype n x y e = ap judged (made-bytes f d subtype n x y e) ∙ refreshed-accepted f d subtype n x y (made-passed f d subtype n x y .0 e)
+
+-- It has as many lines.
+pub corrected-lines : (f : List ℕ) (d subtype n x y : ℕ) → correctionOf f d subtype n x y ≡ Made → judged (correctedBytes f d subtype n x y) .summary .lines ≡ judged f .summary .lines
+corrected-lines f d subtype n x y e = ap (λ (s : List ℕ). judged s .summary .lines) (made-bytes f d subtype n x y e) ∙ refreshed-lines f d subtype n x y (made-passed f d subtype n x y .0 e)
 
 -- A call leaves an accepted flow accepted, made or refused.
 one-stays-accepted : (f : List ℕ) (d subtype n x y : ℕ) → judged f .verdict ≡ Accepted → judged (correctedBytes f d subtype n x y) .verdict ≡ Accepted

@@ -15,7 +15,9 @@ use Rattle.judge.specs.declared.Verdict.the-variants.{Accepted, Refused}
 use Rattle.judge.specs.Refusal.{judgedFirst}
 use Rattle.judge.specs.Flow.{recordsOf, judged}
 use Rattle.judge.proofs.FirstFault.{judgement-number}
+use Rattle.delega.specs.declared.used.Used.{Used}
 use Rattle.delega.specs.declared.DelegaAnswer.{DelegaAnswer}
+use Rattle.delega.specs.Used.{noneUsed, nextUsed}
 use Rattle.delega.specs.OneDelega.{refusedAs, noSuchDelega, answered, closesAt, delegaFrom, delegaOf}
 
 -- "Every call on a flow judges it first and gives that refusal if there is one"
@@ -34,32 +36,32 @@ module _ (s : List ℕ) (d : ℕ) (e : judged s .verdict ≡ Accepted) where
   delega-above z h = rw (e, ne-eqb _ _ z, lt-ltb _ _ h)
 
   -- any other number is looked for
-  pub delega-within : (d ≡ 0 → ⊥) → d ≤ judged s .summary .deleghe → delegaOf s d ≡ delegaFrom d startState (recordsOf s)
+  pub delega-within : (d ≡ 0 → ⊥) → d ≤ judged s .summary .deleghe → delegaOf s d ≡ delegaFrom d startState noneUsed (recordsOf s)
   unfolding delegaOf
   delega-within z h = rw (e, ne-eqb _ _ z, le-ltb _ _ h)
 
 -- where a delega is looked for and not there, the refusal is 21
-from-number : (d : ℕ) (st : State) (rs : List (List ℕ)) {n r p : ℕ} → delegaFrom d st rs .verdict ≡ Refused n r p → n ≡ 21
+from-number : (d : ℕ) (st : State) (u : Used) (rs : List (List ℕ)) {n r p : ℕ} → delegaFrom d st u rs .verdict ≡ Refused n r p → n ≡ 21
 unfolding delegaFrom
-from-number d st [] e = cc
-from-number d st (x ∷ rs) {n} {r} {p} e = go (closesAt d (st .deleghe) (kindIn x)) e (from-number d (next st x) rs)
+from-number d st u [] e = cc
+from-number d st u (x ∷ rs) {n} {r} {p} e = go (closesAt d (st .deleghe) (kindIn x)) _ e (from-number d (next st x) (nextUsed u (kindIn x)) rs)
   where
-    go : (b : Bool) → cond b (answered st) (delegaFrom d (next st x) rs) .verdict ≡ Refused n r p → (delegaFrom d (next st x) rs .verdict ≡ Refused n r p → n ≡ 21) → n ≡ 21
-    go true q h = let z : _≡_ {A = ℕ} 0 1 = cc in absurd (omega arith)
-    go false q h = h q
+    go : (b : Bool) (rest : DelegaAnswer) → cond b (answered st u) rest .verdict ≡ Refused n r p → (rest .verdict ≡ Refused n r p → n ≡ 21) → n ≡ 21
+    go true rest q h = let z : _≡_ {A = ℕ} 0 1 = cc in absurd (omega arith)
+    go false rest q h = h q
 
 -- a refusal is the judgement's or 21: it has a number
 pub delega-number : (s : List ℕ) (d : ℕ) {n r p : ℕ} → delegaOf s d .verdict ≡ Refused n r p → 1 ≤ n
 unfolding delegaOf
 delega-number s d {n} {r} {p} e = by-verdict (judged s .verdict) refl e
   where
-    by-tests : (a b : Bool) → cond a noSuchDelega (cond b noSuchDelega (delegaFrom d startState (recordsOf s))) .verdict ≡ Refused n r p → 1 ≤ n
+    by-tests : (a b : Bool) → cond a noSuchDelega (cond b noSuchDelega (delegaFrom d startState noneUsed (recordsOf s))) .verdict ≡ Refused n r p → 1 ≤ n
     by-tests true b q = let k : 21 ≡ n = cc in omega arith
     by-tests false true q = let k : 21 ≡ n = cc in omega arith
-    by-tests false false q = omega (arith, from-number d startState (recordsOf s) q)
+    by-tests false false q = omega (arith, from-number d startState noneUsed (recordsOf s) q)
 
     by-verdict : (v : Verdict) → judged s .verdict ≡ v →
-        judgedFirst refusedAs v (cond (eqb d 0) noSuchDelega (cond (ltb (judged s .summary .deleghe) d) noSuchDelega (delegaFrom d startState (recordsOf s)))) .verdict ≡ Refused n r p → 1 ≤ n
+        judgedFirst refusedAs v (cond (eqb d 0) noSuchDelega (cond (ltb (judged s .summary .deleghe) d) noSuchDelega (delegaFrom d startState noneUsed (recordsOf s)))) .verdict ≡ Refused n r p → 1 ≤ n
     by-verdict Accepted h q = by-tests (eqb d 0) (ltb (judged s .summary .deleghe) d) q
     by-verdict (Refused x y z) h q = let w : x ≡ n = cc in omega (arith, judgement-number s h .0)
 

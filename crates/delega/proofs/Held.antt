@@ -53,20 +53,20 @@ line-section i h x t r j k l = rw k (section-grows x i r j (t .sections) (omega 
 
 -- the sums of the open delega, at the 50-01 of delega d
 abbrev pub closing : ℕ → State → List (List ℕ) → DelegaSums
-closing d st rs = atClosing zeroDelega (λ on. on .money .delega) d st rs
+closing d st rs = atClosing zeroDelega (λ on u. on .money .delega) (λ u k. u) d st (tt {0}) rs
 
 -- records that stand so from the first on, and end a flow with d deleghe at least
 module _ (d : ℕ) (rs : List (List ℕ)) (lo : 1 ≤ d) (h : Each Standing startState rs) (w : Ends d (stateAfter startState rs)) where
   both-lines : (closing d startState rs .all .debit ≡ linesOf d Debit rs) × (closing d startState rs .all .credit ≡ linesOf d Credit rs)
   both-lines =
-      own-records zeroDelega (λ on. on .money .delega) d (λ x t. sideOf x (t .all)) (λ x r. ofLine 0 (λ i. valueOf r (columnOf x i)) (kindIn r)) (λ a t u. (a .all .debit ≡ t) × (a .all .credit ≡ u))
-      Standing (λ st r f. f) (λ x r q. q _ 0 true .0) none-side (λ x t r i k l. line-all x t r i k) (λ st r k f t u a b. (omega (arith, rw k at a), omega (arith, rw k at b))) rs lo h w
+      own-records zeroDelega (λ on u. on .money .delega) (λ u k. u) d (λ x t. sideOf x (t .all)) (λ x r. ofLine 0 (λ i. valueOf r (columnOf x i)) (kindIn r)) (λ a t u. (a .all .debit ≡ t) × (a .all .credit ≡ u))
+      Standing (λ st r f. f) (λ x r q. q _ 0 true .0) none-side (λ x t r i k l. line-all x t r i k) (λ st w r k f t u a b. (omega (arith, rw k at a), omega (arith, rw k at b))) (tt {0}) rs lo h w
 
   both-sections : (i : ℕ) → i < 5 → (getD (closing d startState rs .sections) i noSums .debit ≡ sectionOf d Debit i rs) × (getD (closing d startState rs .sections) i noSums .credit ≡ sectionOf d Credit i rs)
   both-sections i g =
-      own-records zeroDelega (λ on. on .money .delega) d (λ x t. sideOf x (getD (t .sections) i noSums)) (λ x r. ofLine 0 (ofSection x i r) (kindIn r))
+      own-records zeroDelega (λ on u. on .money .delega) (λ u k. u) d (λ x t. sideOf x (getD (t .sections) i noSums)) (λ x r. ofLine 0 (ofSection x i r) (kindIn r))
       (λ a t u. (getD (a .sections) i noSums .debit ≡ t) × (getD (a .sections) i noSums .credit ≡ u))
-      Standing (λ st r f. f) (λ x r q. q _ 0 true .0) (λ x. no-side x 5 i) (line-section i g) (λ st r k f t u a b. (omega (arith, rw k at a), omega (arith, rw k at b))) rs lo h w
+      Standing (λ st r f. f) (λ x r q. q _ 0 true .0) (λ x. no-side x 5 i) (line-section i g) (λ st w r k f t u a b. (omega (arith, rw k at a), omega (arith, rw k at b))) (tt {0}) rs lo h w
 
   -- all debits and all credits
   pub closing-lines : (x : Side) → sideOf x (closing d startState rs .all) ≡ linesOf d x rs

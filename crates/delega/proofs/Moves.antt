@@ -60,11 +60,11 @@ pub data Move (n : ℕ) (st : State) (k : Kind) (v : ℕ) (on : State) : Type 0 
   Keeps : Quiet k → on .money ≡ st .money → Between n on → Move n st k v on
 
 -- the phases of a list all have a delega open, or none has
-abbrev EachOpen : ℕ → List ℕ → Type 0
+abbrev pub EachOpen : ℕ → List ℕ → Type 0
 EachOpen o [] = Unit {0}
 EachOpen o (y ∷ ys) = (openAt y ≡ o) × EachOpen o ys
 
-among-open : (o x : ℕ) (ys : List ℕ) → EachOpen o ys → among x ys ≡ true → openAt x ≡ o
+pub among-open : (o x : ℕ) (ys : List ℕ) → EachOpen o ys → among x ys ≡ true → openAt x ≡ o
 unfolding among
 among-open o x [] h e = absurd (false≢true e)
 among-open o x (y ∷ ys) h e = go (eqb x y) refl e (among-open o x ys (h .1))
@@ -74,7 +74,7 @@ among-open o x (y ∷ ys) h e = go (eqb x y) refl e (among-open o x ys (h .1))
     go false q f g = g f
 
 -- a line stands in an open delega
-line-open : (p : ℕ) (a b : Bool) → cond (eqb p afterDomicile) true (cond (eqb p afterLine) a (cond (eqb p afterBalance) b false)) ≡ true → openAt p ≡ 1
+pub line-open : (p : ℕ) (a b : Bool) → cond (eqb p afterDomicile) true (cond (eqb p afterLine) a (cond (eqb p afterBalance) b false)) ≡ true → openAt p ≡ 1
 line-open p a b e = go (eqb p afterDomicile) (eqb p afterLine) (eqb p afterBalance) refl refl refl e
   where
     go : (x y z : Bool) → eqb p afterDomicile ≡ x → eqb p afterLine ≡ y → eqb p afterBalance ≡ z → cond x true (cond y a (cond z b false)) ≡ true → openAt p ≡ 1
@@ -84,7 +84,7 @@ line-open p a b e = go (eqb p afterDomicile) (eqb p afterLine) (eqb p afterBalan
     go false false false i j k f = absurd (false≢true f)
 
 -- so does a section's balance
-balance-open : (p : ℕ) (a : Bool) → cond (eqb p afterLine) a false ≡ true → openAt p ≡ 1
+pub balance-open : (p : ℕ) (a : Bool) → cond (eqb p afterLine) a false ≡ true → openAt p ≡ 1
 balance-open p a e = go (eqb p afterLine) refl e
   where
     go : (x : Bool) → eqb p afterLine ≡ x → cond x a false ≡ true → openAt p ≡ 1

@@ -1,8 +1,10 @@
--- For theorems. What the answer for one delega is measured by: plain sums over the records that carry its number.
-use Prim.Native.Nat.{ℕ}
+-- For theorems. What the answer for one delega is measured by: plain counts and sums over the records that carry its number.
+use Prim.Native.Nat.{ℕ, _/_, _%_, _^_}
 use mathlib.Core.Bool.{cond}
 use mathlib.Core.List.{List}
-use lib.Dec.{eqb}
+use lib.Dec.{eqb, ltb}
+use Rattle.layout.specs.declared.Kind.{Kind}
+use Rattle.layout.specs.declared.Kind.the-variants.{Head, Taxpayer, Domicile, Line, Balance, Payment, Receipt, Addressee, Tail, Unknown}
 use Rattle.layout.specs.Kinds.{ofLine, ofPayment, kindIn}
 use Rattle.layout.specs.Fields.{delegaNumber, finalBalance, valueOf}
 use Rattle.judge.specs.Plain.{sumOver, Side, columnOf}
@@ -26,3 +28,36 @@ finalsOf d rs = sumOver (λ r. ofDelega d r (ofPayment 0 (valueOf r finalBalance
 -- the number of records 50-01 of delega d
 abbrev pub paymentsOf : ℕ → List (List ℕ) → ℕ
 paymentsOf d rs = sumOver (λ r. ofDelega d r (ofPayment 0 1 (kindIn r))) rs
+
+-- the number of lines of delega d
+abbrev pub lineCountOf : ℕ → List (List ℕ) → ℕ
+lineCountOf d rs = sumOver (λ r. ofDelega d r (ofLine 0 (λ s. 1) (kindIn r))) rs
+
+-- the number of its lines of section i
+abbrev pub sectionCountOf : ℕ → ℕ → List (List ℕ) → ℕ
+sectionCountOf d i rs = sumOver (λ r. ofDelega d r (ofLine 0 (λ s. cond (eqb s i) 1 0) (kindIn r))) rs
+
+-- 1 for the balance of a section, and 0 for a record of any other kind
+abbrev pub balances : Kind → ℕ
+balances Head = 0
+balances Taxpayer = 0
+balances Domicile = 0
+balances (Line s) = 0
+balances (Balance s) = 1
+balances Payment = 0
+balances Receipt = 0
+balances Addressee = 0
+balances Tail = 0
+balances Unknown = 0
+
+-- the number of its balance records
+abbrev pub balancesOf : ℕ → List (List ℕ) → ℕ
+balancesOf d rs = sumOver (λ r. ofDelega d r (balances (kindIn r))) rs
+
+-- bit i of a number: 1 or 0
+abbrev pub bitAt : ℕ → ℕ → ℕ
+bitAt x i = x / 2 ^ i % 2
+
+-- 1 where there is one at least, and 0 where there is none
+abbrev pub someOf : ℕ → ℕ
+someOf n = cond (ltb 0 n) 1 0

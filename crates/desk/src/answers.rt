@@ -1,7 +1,6 @@
 // Answers, as they are printed.
 use find::Found;
 use judge::Judgement;
-use judge::Verdict;
 use libc::STDOUT_FILENO;
 
 // A judgement, as document 01 has it printed.
@@ -18,19 +17,11 @@ pub fn print_refusal(number: u64, at: usize, position: usize) {
     io::write_all(STDOUT_FILENO, &text[..n]);
 }
 
-// What the desk is shown of one delega: its number and final balance and then its sums, or the refusal.
+// What the desk is shown of one delega: its numbers and then its sums, or the refusal.
 pub fn print_delega(flow: &[u8], number: u64) {
-    let answer = delega::delega(flow, number);
-    let verdict = answer.verdict;
-    let sums = answer.sums;
-    match verdict {
-        Verdict::Accepted => {
-            let mut text = [0u8; report::ROOM];
-            let n = report::delega_text(number, answer.balance, sums, &mut text);
-            io::write_all(STDOUT_FILENO, &text[..n]);
-        }
-        Verdict::Refused(code, at, position) => print_refusal(code, at, position),
-    }
+    let mut text = [0u8; report::ROOM];
+    let n = report::delega_text(number, delega::delega(flow, number), &mut text);
+    io::write_all(STDOUT_FILENO, &text[..n]);
 }
 
 // What the desk is shown of one line: the number of its record and below it the record, or the refusal.

@@ -10,7 +10,9 @@ use Rattle.text.specs.Placing.{putAt}
 use Rattle.text.proofs.Writing.{part-on, part-end}
 use Rattle.amounts.specs.declared.Sums.{Sums}
 use Rattle.rules.specs.State.{noSums}
-use Rattle.judge.specs.Refusal.{refusal, noRefusal}
+use Rattle.judge.specs.declared.Verdict.{Verdict}
+use Rattle.judge.specs.declared.Verdict.the-variants.{Accepted}
+use Rattle.judge.specs.Refusal.{refusal, noRefusal, refusalOf}
 use Rattle.f24.specs.Linked.{overlay, codeOr, roomOr, sumsNumbers, refusalNumbers, answerNumbers}
 
 -- To overlay is to put at the start.
@@ -56,6 +58,10 @@ module _ {n : ℕ} (room : List ℕ) where
   pub answer-room : (xs : List ℕ) {l : List ℕ} → n ≤ length room → l ≡ overlay xs room → l ≡ roomOr n room (answerNumbers noRefusal xs)
   unfolding answerNumbers
   answer-room xs h p = long-room xs h p
+
+  -- So it is where a verdict says that there is none.
+  pub accepted-room : (v : Verdict) (xs : List ℕ) {l : List ℕ} → v ≡ Accepted → n ≤ length room → l ≡ overlay xs room → l ≡ roomOr n room (answerNumbers (refusalOf v) xs)
+  accepted-room v xs e h p = rw e (answer-room xs h p)
 
   -- A refusal, whose number is not 0, is written as its record and its position.
   pub refused-room : (xs : List ℕ) (m r p : ℕ) {l : List ℕ} → 1 ≤ m → n ≤ length room → l ≡ overlay (refusalNumbers r p) room → l ≡ roomOr n room (answerNumbers (refusal m r p) xs)

@@ -8,6 +8,7 @@ use Rattle.amounts.specs.declared.Sums.{Sums}
 use Rattle.judge.specs.declared.Summary.{Summary}
 use Rattle.judge.specs.Refusal.{Refusal, refusalOf}
 use Rattle.judge.specs.Flow.{judged}
+use Rattle.delega.specs.declared.DelegaAnswer.{DelegaAnswer}
 use Rattle.delega.specs.OneDelega.{delegaOf}
 use Rattle.find.specs.declared.Found.{Found}
 use Rattle.find.specs.declared.Found.the-variants as Line
@@ -34,13 +35,13 @@ unfoldable pub sumsNumbers : List Sums → List ℕ
 sumsNumbers [] = []
 sumsNumbers (s ∷ ss) = s .debit ∷ s .credit ∷ sumsNumbers ss
 
--- A summary is written as deleghe, records and total, and then the sums of the sections.
+-- A summary is written as deleghe, records, total and lines, and then the sums of the sections.
 unfoldable pub summaryNumbers : Summary → List ℕ
-summaryNumbers s = s .deleghe ∷ s .records ∷ s .total ∷ sumsNumbers (s .sums)
+summaryNumbers s = s .deleghe ∷ s .records ∷ s .total ∷ s .lines ∷ sumsNumbers (s .sums)
 
--- A delega is written as its final balance, and then the sums of its sections.
-unfoldable pub delegaNumbers : ℕ → List Sums → List ℕ
-delegaNumbers balance sums = balance ∷ sumsNumbers sums
+-- A delega is written as its final balance, its lines, its set of sections and the size of it, and then the sums of its sections.
+unfoldable pub delegaNumbers : DelegaAnswer → List ℕ
+delegaNumbers a = a .balance ∷ a .lines ∷ a .set ∷ a .size ∷ sumsNumbers (a .sums)
 
 -- A refusal is written as the record and the position.
 abbrev pub refusalNumbers : ℕ → ℕ → List ℕ
@@ -55,21 +56,21 @@ abbrev pub foundNumbers : Found → List ℕ
 foundNumbers (Line.At k) = k ∷ []
 foundNumbers (Line.Refused n r p) = []
 
--- `f24_judge` returns 100 for a room of fewer than 13 numbers, and else what the judgement of the flow says.
+-- `f24_judge` returns 100 for a room of fewer than 14 numbers, and else what the judgement of the flow says.
 unfoldable pub judgeCode : List ℕ → List ℕ → ℕ
-judgeCode f room = codeOr 13 room (refusalOf (judged f .verdict) .number)
+judgeCode f room = codeOr 14 room (refusalOf (judged f .verdict) .number)
 
 -- It leaves such a room as it came, and else writes the summary or the refusal.
 unfoldable pub judgeRoom : List ℕ → List ℕ → List ℕ
-judgeRoom f room = roomOr 13 room (answerNumbers (refusalOf (judged f .verdict)) (summaryNumbers (judged f .summary)))
+judgeRoom f room = roomOr 14 room (answerNumbers (refusalOf (judged f .verdict)) (summaryNumbers (judged f .summary)))
 
--- `f24_delega` returns 100 for a room of fewer than 11 numbers, and else what the answer for delega d says.
+-- `f24_delega` returns 100 for a room of fewer than 14 numbers, and else what the answer for delega d says.
 unfoldable pub delegaCode : List ℕ → ℕ → List ℕ → ℕ
-delegaCode f d room = codeOr 11 room (refusalOf (delegaOf f d .verdict) .number)
+delegaCode f d room = codeOr 14 room (refusalOf (delegaOf f d .verdict) .number)
 
 -- It leaves such a room as it came, and else writes the delega or the refusal.
 unfoldable pub delegaRoom : List ℕ → ℕ → List ℕ → List ℕ
-delegaRoom f d room = roomOr 11 room (answerNumbers (refusalOf (delegaOf f d .verdict)) (delegaNumbers (delegaOf f d .balance) (delegaOf f d .sums)))
+delegaRoom f d room = roomOr 14 room (answerNumbers (refusalOf (delegaOf f d .verdict)) (delegaNumbers (delegaOf f d)))
 
 -- `f24_find` returns 100 for a room of fewer than 2 numbers, and else what the search for the n-th line of a subtype in delega d says.
 unfoldable pub findCode : List ℕ → ℕ → ℕ → ℕ → List ℕ → ℕ

@@ -7,8 +7,8 @@ ghost use lib.ListN.{length};
 ghost use Rattle.f24.specs.Linked.{overlay, summaryNumbers, delegaNumbers, refusalNumbers};
 ghost use Rattle.f24.specs.Linked.{judgeCode, judgeRoom, delegaCode, delegaRoom, findCode, findRoom, correctCode, correctRoom, correctFlow};
 ghost use Rattle.f24.specs.Linked.{writeCode, writeRoom, writeAnswer};
-use amounts::Sums;
 use correct::Correction;
+use delega::DelegaAnswer;
 use find::Found;
 use judge::Summary;
 use judge::Verdict;
@@ -18,9 +18,9 @@ use write::Writing;
 const NO_ROOM: u64 = 100;
 
 // How many numbers each answer needs room for.
-const JUDGE_ROOM: usize = 13;
+const JUDGE_ROOM: usize = 14;
 
-const DELEGA_ROOM: usize = 11;
+const DELEGA_ROOM: usize = 14;
 
 const FIND_ROOM: usize = 2;
 
@@ -50,7 +50,7 @@ fn put_refusal(room: &mut [u64], at: usize, position: usize)
 }
 
 // The numbers of a summary, as they are written.
-fn summary_numbers(s: Summary) -> [u64; 13]
+fn summary_numbers(s: Summary) -> [u64; 14]
     ensures { λ r. ⌜ r ≡ summaryNumbers s ⌝ }
 {
     let totals = s.sums;
@@ -58,6 +58,7 @@ fn summary_numbers(s: Summary) -> [u64; 13]
         s.deleghe,
         s.records as u64,
         s.total,
+        s.lines,
         totals[0].debit,
         totals[0].credit,
         totals[1].debit,
@@ -72,11 +73,15 @@ fn summary_numbers(s: Summary) -> [u64; 13]
 }
 
 // The numbers of a delega, as they are written.
-fn delega_numbers(balance: u64, sums: [Sums; 5]) -> [u64; 11]
-    ensures { λ r. ⌜ r ≡ delegaNumbers balance sums ⌝ }
+fn delega_numbers(d: DelegaAnswer) -> [u64; 14]
+    ensures { λ r. ⌜ r ≡ delegaNumbers d ⌝ }
 {
+    let sums = d.sums;
     [
-        balance,
+        d.balance,
+        d.lines,
+        d.set,
+        d.size,
         sums[0].debit,
         sums[0].credit,
         sums[1].debit,
@@ -90,7 +95,7 @@ fn delega_numbers(balance: u64, sums: [Sums; 5]) -> [u64; 11]
     ]
 }
 
-// Judges a flow. The answer is the number of deleghe and of records, the total, and the debit and credit of each section.
+// Judges a flow. The answer is the number of deleghe and of records, the total, the number of lines, and the debit and credit of each section.
 #[no_mangle]
 pub extern "C" fn f24_judge(flow: &[u8], answer: &mut [u64]) -> u64
     ensures { λ r. ⌜ (r ≡ judgeCode (now (flow .entry)) (now (answer .entry)))
@@ -110,7 +115,7 @@ pub extern "C" fn f24_judge(flow: &[u8], answer: &mut [u64]) -> u64
     0
 }
 
-// The final balance of the delega with this number, and the debit and credit of each of its sections.
+// The final balance of the delega with this number, its lines, its set of sections and the size of it, and the debit and credit of each of its sections.
 #[no_mangle]
 pub extern "C" fn f24_delega(flow: &[u8], number: u64, answer: &mut [u64]) -> u64
     ensures { λ r. ⌜ (r ≡ delegaCode (now (flow .entry)) number (now (answer .entry)))
@@ -125,8 +130,7 @@ pub extern "C" fn f24_delega(flow: &[u8], number: u64, answer: &mut [u64]) -> u6
         put_refusal(&mut *answer, at, position);
         return code;
     }
-    let sums = one.sums;
-    let numbers = delega_numbers(one.balance, sums);
+    let numbers = delega_numbers(one);
     put(&mut *answer, &numbers);
     0
 }

@@ -1,4 +1,4 @@
--- The counts of an accepted flow: its records, and its deleghe, one for each record of type 10.
+-- The counts of an accepted flow: its records, its deleghe, one for each record of type 10, and its lines.
 use Prim.Native.Nat.{ℕ, zero, suc, _+_, _/_}
 use mathlib.Core.Path.{_≡_, refl, ap, _∙_}
 use mathlib.Core.Bool.{Bool, true, false, cond}
@@ -14,18 +14,19 @@ use Rattle.layout.specs.declared.RecordType.the-variants.{F4, T10, T20, T40, T5
 use Rattle.layout.specs.declared.Kind.{Kind}
 use Rattle.layout.specs.declared.Kind.the-variants.{Taxpayer, Line, Balance, Payment, Receipt, Addressee, Unknown}
 use Rattle.layout.specs.Sections.{sections}
-use Rattle.layout.specs.Kinds.{sectionKindFrom, paymentKind, kindOf, typeIn, subtypeIn, kindIn}
+use Rattle.layout.specs.Kinds.{sectionKindFrom, paymentKind, kindOf, typeIn, subtypeIn, kindIn, ofLine}
 use Rattle.amounts.specs.declared.Outcome.the-variants.{Pass}
 use Rattle.rules.specs.declared.State.{State}
 use Rattle.rules.specs.State.{startState}
 use Rattle.rules.specs.Checks.{fault}
 use Rattle.rules.specs.Step.{nextDeleghe, next}
+use Rattle.rules.proofs.Others.{line-or-other}
 use Rattle.judge.specs.declared.Verdict.the-variants.{Accepted}
 use Rattle.judge.specs.declared.Summary.{Summary}
 use Rattle.judge.specs.declared.Judgement.{Judgement}
 use Rattle.judge.specs.Flow.{summaryOf, chunks, recordsOf, headNameOf, judged}
 use Rattle.judge.proofs.Records.{length-chunks}
-use Rattle.judge.specs.Plain.{sumOver, opens, tensIn, stateAfter, NoFault}
+use Rattle.judge.specs.Plain.{sumOver, opens, tensIn, lineCountIn, stateAfter, NoFault}
 use Rattle.judge.proofs.Accepted.{accepted-means-no-fault, sound-judged}
 
 -- where each record that passes keeps a fact of the state and adds its own number to a number of the summary, that number of an accepted flow is their sum
@@ -117,3 +118,18 @@ pub accepted-deleghe : (s : List ℕ) → judged s .verdict ≡ Accepted → jud
 unfolding startState next kindIn
 accepted-deleghe s e =
     accepted-adds s e (λ st. Unit {0}) (λ m. m .deleghe) (λ r. opens (typeIn r)) (λ st r p i. (tt, ten-opens (st .deleghe) (typeIn r) (subtypeIn r))) tt refl
+
+-- every record is a line or counts among the others
+lines-or-others : (st : State) (rs : List (List ℕ)) → stateAfter st rs .others + lineCountIn rs ≡ st .others + length rs
+unfolding stateAfter next sumOver
+lines-or-others st [] = omega arith
+lines-or-others st (r ∷ rs) = omega (arith, lines-or-others (next st r) rs, line-or-other (st .others) (kindIn r))
+
+-- so the lines after all records are the records that are lines
+pub lines-after : (rs : List (List ℕ)) → summaryOf (stateAfter startState rs) .lines ≡ lineCountIn rs
+unfolding startState
+lines-after rs = omega (arith, lines-or-others startState rs, seen-after startState rs)
+
+-- "the number of lines", the records that are lines
+pub accepted-lines : (s : List ℕ) → judged s .verdict ≡ Accepted → judged s .summary .lines ≡ lineCountIn (recordsOf s)
+accepted-lines s e = ap (λ (j : Judgement). j .summary .lines) (sound-judged s (accepted-means-no-fault s e)) ∙ lines-after (recordsOf s)

@@ -12,3 +12,4 @@ pub mod OneAnswer
 pub mod OwnNumbers
 pub mod DateExists
 pub mod CodeExists
+pub mod Zeros

@@ -21,14 +21,14 @@ use Rattle.judge.specs.declared.Judgement.{Judgement}
 
 -- a refusal, with a summary of zeros
 abbrev pub noSummary : Summary
-noSummary = record { deleghe = 0; records = 0; total = 0; sums = zeroSections }
+noSummary = record { deleghe = 0; records = 0; total = 0; lines = 0; sums = zeroSections }
 
 abbrev pub refusedWith : ℕ → ℕ → ℕ → Judgement
 refusedWith n r p = record { verdict = Refused n r p; summary = noSummary }
 
--- "An accepted flow answers the number of deleghe, the number of records, the sum of final balances, and the debit and credit sums for each of the five sections"
+-- "An accepted flow answers the number of deleghe, the number of records, the sum of final balances, and the debit and credit sums for each of the five sections"; "The summary of a flow .. gains the line count"
 abbrev pub summaryOf : State → Summary
-summaryOf st = record { deleghe = st .deleghe; records = st .seen; total = st .money .total; sums = st .money .flow }
+summaryOf st = record { deleghe = st .deleghe; records = st .seen; total = st .money .total; lines = st .seen - st .others; sums = st .money .flow }
 
 abbrev pub acceptedWith : State → Judgement
 acceptedWith st = record { verdict = Accepted; summary = summaryOf st }

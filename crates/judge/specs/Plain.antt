@@ -53,6 +53,10 @@ opens NoType = 0
 abbrev pub tensIn : List (List ℕ) → ℕ
 tensIn rs = sumOver (λ r. opens (typeIn r)) rs
 
+-- the number of lines
+abbrev pub lineCountIn : List (List ℕ) → ℕ
+lineCountIn rs = sumOver (λ r. ofLine 0 (λ s. 1) (kindIn r)) rs
+
 -- the two sides of a line
 pub data Side : Type 0 where
   Debit : Side

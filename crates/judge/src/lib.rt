@@ -26,11 +26,12 @@ pub enum Verdict {
     Refused(u64, usize, usize),
 }
 
-// What an accepted flow answers: the number of deleghe and of records, the sum of final balances, the sums of each of the five sections.
+// What an accepted flow answers: the number of deleghe and of records, the sum of final balances, the number of lines, the sums of each of the five sections.
 pub struct Summary {
     pub deleghe: u64,
     pub records: usize,
     pub total: u64,
+    pub lines: u64,
     pub sums: [Sums; 5],
 }
 
@@ -50,6 +51,7 @@ fn refused(number: u64, at: usize, position: usize) -> Judgement
             deleghe: 0,
             records: 0,
             total: 0,
+            lines: 0,
             sums: [Sums {
                 debit: 0,
                 credit: 0,
@@ -60,7 +62,7 @@ fn refused(number: u64, at: usize, position: usize) -> Judgement
 
 // All records have passed: acceptance after EF, else refusal 5.
 fn closing_of(st: State) -> Judgement
-    requires { ⌜ st .seen < 1000 ⌝ }
+    requires { ⌜ (st .seen < 1000) × (st .others ≤ st .seen) ⌝ }
     ensures { λ r. ⌜ r ≡ closing st ⌝ }
 {
     let stage = st.stage;
@@ -73,6 +75,7 @@ fn closing_of(st: State) -> Judgement
                 deleghe: st.deleghe,
                 records: st.seen,
                 total: money.total,
+                lines: (st.seen - st.others) as u64,
                 sums,
             },
         };
@@ -97,7 +100,7 @@ pub fn nth_record(flow: &[u8], k: usize) -> &[u8]
 
 // Behind the clean records: the closing where no record is left, else check 3 of the next one, which fails there.
 fn ended(flow: &[u8], st: State, count: usize) -> Judgement
-    requires { ⌜ (count ≡ length (now flow) / 120) × (st .seen ≤ count) × (st .seen < 1000) ⌝ }
+    requires { ⌜ (count ≡ length (now flow) / 120) × (st .seen ≤ count) × (st .seen < 1000) × (st .others ≤ st .seen) ⌝ }
     ensures { λ r. ⌜ r ≡ ending (now (flow .entry)) st ⌝ }
 {
     let k = st.seen;

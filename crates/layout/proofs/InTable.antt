@@ -1,11 +1,12 @@
 -- The section of a line or of a balance is one of the five of the table.
 use Prim.Native.Nat.{ℕ, _+_, _≤_, _<_}
 use mathlib.Core.Path.{_≡_}
-use mathlib.Core.Bool.{Bool, true, false, cond}
+use mathlib.Core.Bool.{Bool, cond}
 use mathlib.Core.List.{List, [], _∷_}
 use native.Mathlib.Omega.{arith}
 use lib.Dec.{eqb, lit≤, lit<}
 use lib.ListN.{length}
+use Rattle.text.proofs.Tests.{either-way}
 use Rattle.text.specs.declared.Digits.{Digits}
 use Rattle.text.specs.declared.Digits.the-variants.{Number, NonDigit, TooLong}
 use Rattle.layout.specs.declared.Section.{Section}
@@ -30,8 +31,7 @@ sectionOf Tail = 0
 sectionOf Unknown = 0
 
 choice : (t : Bool) (j k : Kind) → sectionOf j < 5 → sectionOf k < 5 → sectionOf (cond t j k) < 5
-choice true j k h i = h
-choice false j k h i = i
+choice = either-way (λ (k : Kind). sectionOf k < 5)
 
 look-within : (i : ℕ) (xs : List Section) (n : ℕ) → i + length xs ≤ 5 → sectionOf (sectionKindFrom i xs n) < 5
 unfolding sectionKindFrom

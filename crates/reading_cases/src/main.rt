@@ -56,12 +56,19 @@ fn one_case(fd: i32) -> bool {
     true
 }
 
-fn main() {
-    let fd = desk::open_cases(b"calls");
+// The cases of one file.
+fn make_all(path: &[u8]) {
+    let fd = desk::open_cases(path);
     for _ in 0..desk::MOST_CASES {
         if !one_case(fd) {
             break;
         }
     }
     libc::close(fd);
+}
+
+// The calls whose answers were written by hand, then those on single deleghe that the reference has answered.
+fn main() {
+    make_all(b"calls");
+    make_all(b"vectors");
 }

@@ -29,7 +29,7 @@ next-below st r t = state-on st (kindIn r) (lineSums (kindIn r) r) (t .below) (s
 
 -- The step over a record has room, with the amounts of its line.
 pub turn-room : (r : List ℕ) (st : State) (k : Kind) (x : Sums) → Turn r st → x ≡ lineSums k r →
-    (MoneyBelow 1_000_000_000_000_000_000 (st .money) × Small x) × ((st .stage .lines < 1000) × (st .deleghe < 1000) × (st .seen < 1000))
+    (MoneyBelow 1_000_000_000_000_000_000 (st .money) × Small x) × ((st .stage .lines < 1000) × (st .deleghe < 1000) × (st .others < 1000) × (st .seen < 1000))
 turn-room r st k x t e = step-room st x (t .below) (t .few) (rw e (sums-small k r (t .sized)))
 
 -- The records that are left are the next one and those behind it.

@@ -11,9 +11,10 @@ use Rattle.text.specs.Placing.{putAt, numberBytes}
 use Rattle.text.proofs.Fits.{number-fits, number-written}
 use Rattle.text.proofs.Numerals.{length-digits}
 use Rattle.text.proofs.Puts.{length-put, put-here, put-after, put-is}
-use Rattle.judge.specs.declared.Judgement.{Judgement}
+use Rattle.judge.specs.declared.Verdict.{Verdict}
 use Rattle.judge.specs.declared.Verdict.the-variants.{Accepted, Refused}
-use Rattle.report.specs.Printed.{widthOf, decimal, acceptedText, refusedText, judgementText, printedBytes, printedSize, Printed}
+use Rattle.judge.specs.Refusal.{judgedFirst}
+use Rattle.report.specs.Printed.{widthOf, decimal, refusedText, printedBytes, printedSize, Printed}
 use Rattle.report.specs.Appended.{Appended}
 use Rattle.report.proofs.Widths.{width-twenty, width-enough}
 
@@ -107,13 +108,11 @@ printed-shows {t} {r} {r'} {n} h p =
     let s : n ≡ length t = rw (le-leb 512 (length r) h) at (p .size) in
     rw b (put-here 0 t r (omega arith) n s)
 
-module _ (j : Judgement) where
-  -- An accepted judgement prints its summary.
-  pub accepted-text : j .verdict ≡ Accepted → judgementText j ≡ acceptedText (j .summary)
-  unfolding judgementText
+module _ (v : Verdict) (t : List ℕ) where
+  -- An answer that is no refusal prints its own text.
+  pub accepted-text : v ≡ Accepted → judgedFirst refusedText v t ≡ t
   accepted-text e = rw e
 
-  -- A refused judgement prints its refusal.
-  pub refused-text : {n r p : ℕ} → j .verdict ≡ Refused n r p → judgementText j ≡ refusedText n r p
-  unfolding judgementText
+  -- A refusal prints its own.
+  pub refused-text : {n r p : ℕ} → v ≡ Refused n r p → judgedFirst refusedText v t ≡ refusedText n r p
   refused-text e = rw e

@@ -2,8 +2,8 @@
 use Prim.Native.Nat.{ℕ}
 use mathlib.Core.Path.{_≡_, sym, _∙_}
 use mathlib.Core.List.{List}
-use Rattle.amounts.specs.declared.Sums.{Sums}
 use Rattle.judge.specs.declared.Judgement.{Judgement}
+use Rattle.delega.specs.declared.DelegaAnswer.{DelegaAnswer}
 use Rattle.report.specs.Printed.{refusedText, delegaText, lineText, judgementText, Printed}
 
 module _ (r x y : List ℕ) (m n : ℕ) where
@@ -20,8 +20,8 @@ module _ (r x y : List ℕ) (m n : ℕ) where
   one-refusal-text number at position = printed-one (refusedText number at position)
 
   -- of `delega_text`
-  pub one-delega-text : (number balance : ℕ) (sums : List Sums) → Printed (delegaText number balance sums) r x m → Printed (delegaText number balance sums) r y n → (x ≡ y) × (m ≡ n)
-  one-delega-text number balance sums = printed-one (delegaText number balance sums)
+  pub one-delega-text : (number : ℕ) (a : DelegaAnswer) → Printed (delegaText number a) r x m → Printed (delegaText number a) r y n → (x ≡ y) × (m ≡ n)
+  one-delega-text number a = printed-one (delegaText number a)
 
   -- of `line_text`
   pub one-line-text : (at : ℕ) → Printed (lineText at) r x m → Printed (lineText at) r y n → (x ≡ y) × (m ≡ n)

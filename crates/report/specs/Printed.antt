@@ -9,10 +9,10 @@ use Rattle.text.specs.Numbers.{digitsOf}
 use Rattle.text.specs.Placing.{putAt}
 use Rattle.layout.specs.Sections.{sectionAt}
 use Rattle.amounts.specs.declared.Sums.{Sums}
-use Rattle.judge.specs.declared.Verdict.{Verdict}
-use Rattle.judge.specs.declared.Verdict.the-variants.{Accepted, Refused}
 use Rattle.judge.specs.declared.Summary.{Summary}
 use Rattle.judge.specs.declared.Judgement.{Judgement}
+use Rattle.judge.specs.Refusal.{judgedFirst}
+use Rattle.delega.specs.declared.DelegaAnswer.{DelegaAnswer}
 
 -- "One space stands between fields"
 abbrev pub space : ℕ
@@ -72,30 +72,29 @@ delegaWord = 68 ∷ 69 ∷ 76 ∷ 69 ∷ 71 ∷ 65 ∷ space ∷ []
 abbrev pub lineWord : List ℕ
 lineWord = 76 ∷ 73 ∷ 78 ∷ 69 ∷ space ∷ []
 
--- "First line: deleghe, records, sum of final balances. Then, per section"
+-- "First line: deleghe, records, sum of final balances", and "the line count as a fourth number". "Then, per section"
 unfoldable pub acceptedText : Summary → List ℕ
-acceptedText s = acceptedWord ++ (fieldText (s .deleghe) space ++ (pairText (s .records) (s .total) ++ sectionsText (s .sums)))
+acceptedText s = acceptedWord ++ (fieldText (s .deleghe) space ++ (fieldText (s .records) space ++ (pairText (s .total) (s .lines) ++ sectionsText (s .sums))))
 
 -- "A refusal prints one line: REFUSED, number, record, position"
 unfoldable pub refusedText : ℕ → ℕ → ℕ → List ℕ
 refusedText n r p = refusedWord ++ (fieldText n space ++ pairText r p)
 
--- "For one delega its final balance and its ten section sums are given": the delega's number, its balance, and per section its sums
-unfoldable pub delegaText : ℕ → ℕ → List Sums → List ℕ
-delegaText n b l = delegaWord ++ (pairText n b ++ sectionsText l)
+-- "For one delega its final balance and its ten section sums are given", and the line count, the set of sections "as one number" and "its size": the delega's number, these, and per section its sums
+unfoldable pub answeredText : ℕ → DelegaAnswer → List ℕ
+answeredText n a = delegaWord ++ (fieldText n space ++ (fieldText (a .balance) space ++ (fieldText (a .lines) space ++ (pairText (a .set) (a .size) ++ sectionsText (a .sums)))))
 
 -- "A found line is handed back as that record": the record's number, counted from 1
 unfoldable pub lineText : ℕ → List ℕ
 lineText r = lineWord ++ fieldText r lineEnd
 
--- "The judging program reads standard input .. and prints": the text of either verdict
-abbrev pub verdictText : Verdict → Summary → List ℕ
-verdictText Accepted s = acceptedText s
-verdictText (Refused n r p) s = refusedText n r p
-
 -- "The judging program reads standard input .. and prints": the text of a judgement
 unfoldable pub judgementText : Judgement → List ℕ
-judgementText j = verdictText (j .verdict) (j .summary)
+judgementText j = judgedFirst refusedText (j .verdict) (acceptedText (j .summary))
+
+-- the text of the answer for the delega with a number
+unfoldable pub delegaText : ℕ → DelegaAnswer → List ℕ
+delegaText n a = judgedFirst refusedText (a .verdict) (answeredText n a)
 
 -- "Every refusal leaves lent memory as it came; a call that succeeds leaves so the lent room past what it writes": the text stands at
 -- the start of a room of 512 bytes or more, and a shorter room stays

@@ -6,9 +6,10 @@ ghost use Prim.Native.Nat.{_+_, _≤_, _<_};
 ghost use lib.ListN.{length};
 ghost use Rattle.text.specs.Numbers.{digitsOf};
 ghost use Rattle.layout.specs.Sections.{sectionAt};
-ghost use Rattle.report.specs.Printed.{widthOf, decimal, fieldText, pairText, sectionText, sectionsText, acceptedText, refusedText, delegaText, lineText, judgementText, Printed};
+ghost use Rattle.report.specs.Printed.{widthOf, decimal, fieldText, pairText, sectionText, sectionsText, acceptedText, refusedText, answeredText, lineText, judgementText, delegaText, Printed};
 ghost use Rattle.report.specs.Appended.{Appended};
 use amounts::Sums;
+use delega::DelegaAnswer;
 use judge::Judgement;
 use judge::Summary;
 use judge::Verdict;
@@ -115,12 +116,27 @@ fn put_sections(room: &mut [u8], at: usize, sums: [Sums; 5]) -> usize
 // An acceptance: its first line, and a line for each section.
 fn put_accepted(room: &mut [u8], summary: Summary) -> usize
     requires { ⌜ 512 ≤ length (now room) ⌝ }
-    ensures { λ r. ⌜ Appended 0 (acceptedText summary) 297 (now (room .entry)) (now (room .exit)) r ⌝ }
+    ensures { λ r. ⌜ Appended 0 (acceptedText summary) 318 (now (room .entry)) (now (room .exit)) r ⌝ }
 {
     let sums = summary.sums;
     let word = put_word(&mut *room, 0, b"ACCEPTED ");
     let deleghe = put_field(&mut *room, word, summary.deleghe, b' ');
-    let line = put_pair(&mut *room, deleghe, summary.records as u64, summary.total);
+    let records = put_field(&mut *room, deleghe, summary.records as u64, b' ');
+    let line = put_pair(&mut *room, records, summary.total, summary.lines);
+    put_sections(&mut *room, line, sums)
+}
+
+// One delega: its number, its final balance, its lines, its set of sections and the size of it, and a line for each section.
+fn put_answered(room: &mut [u8], number: u64, answer: DelegaAnswer) -> usize
+    requires { ⌜ 512 ≤ length (now room) ⌝ }
+    ensures { λ r. ⌜ Appended 0 (answeredText number answer) 337 (now (room .entry)) (now (room .exit)) r ⌝ }
+{
+    let sums = answer.sums;
+    let word = put_word(&mut *room, 0, b"DELEGA ");
+    let which = put_field(&mut *room, word, number, b' ');
+    let balance = put_field(&mut *room, which, answer.balance, b' ');
+    let lines = put_field(&mut *room, balance, answer.lines, b' ');
+    let line = put_pair(&mut *room, lines, answer.set, answer.size);
     put_sections(&mut *room, line, sums)
 }
 
@@ -161,16 +177,18 @@ pub fn refusal_text(number: u64, at: usize, position: usize, room: &mut [u8]) ->
     put_refused(&mut *room, number, at, position)
 }
 
-// What is printed of one delega: its number and final balance, and a line for each section.
-pub fn delega_text(number: u64, balance: u64, sums: [Sums; 5], room: &mut [u8]) -> usize
-    ensures { λ r. ⌜ Printed (delegaText number balance sums) (now (room .entry)) (now (room .exit)) r ⌝ }
+// What is printed of the answer for the delega with a number.
+pub fn delega_text(number: u64, answer: DelegaAnswer, room: &mut [u8]) -> usize
+    ensures { λ r. ⌜ Printed (delegaText number answer) (now (room .entry)) (now (room .exit)) r ⌝ }
 {
     if room.len() < ROOM {
         return 0;
     }
-    let word = put_word(&mut *room, 0, b"DELEGA ");
-    let line = put_pair(&mut *room, word, number, balance);
-    put_sections(&mut *room, line, sums)
+    let verdict = answer.verdict;
+    match verdict {
+        Verdict::Accepted => put_answered(&mut *room, number, answer),
+        Verdict::Refused(code, at, position) => put_refused(&mut *room, code, at, position),
+    }
 }
 
 // What is printed of a found line: the number of its record.

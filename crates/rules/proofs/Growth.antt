@@ -15,7 +15,7 @@ use Rattle.rules.specs.declared.State.{State}
 use Rattle.rules.specs.State.{noSums, zeroSections, zeroDelega, startState}
 use Rattle.rules.specs.Bounds.{Small, SumsBelow, MoneyBelow, StateBelow}
 use Rattle.amounts.specs.Amounts.{finalOf}
-use Rattle.rules.specs.Step.{added, addedAt, nextDeleghe, nextMoney, nextOf}
+use Rattle.rules.specs.Step.{added, addedAt, nextDeleghe, nextOthers, nextMoney, nextOf}
 use Rattle.order.specs.Order.{nextStage}
 
 -- the sums of five sections grow by a line's amounts
@@ -73,22 +73,26 @@ lines-on n p Addressee h = omega arith
 lines-on n p Tail h = omega arith
 lines-on n p Unknown h = omega arith
 
+-- the counts of deleghe and of records that are no lines grow by one at most
+counts-on : (n d l : ℕ) (k : Kind) → d ≤ n → l ≤ n → (nextDeleghe d k ≤ n + 1) × (nextOthers l k ≤ n + 1)
+counts-on n d l Head h g = (omega arith, omega arith)
+counts-on n d l Taxpayer h g = (omega arith, omega arith)
+counts-on n d l Domicile h g = (omega arith, omega arith)
+counts-on n d l (Line s) h g = (omega arith, omega arith)
+counts-on n d l (Balance s) h g = (omega arith, omega arith)
+counts-on n d l Payment h g = (omega arith, omega arith)
+counts-on n d l Receipt h g = (omega arith, omega arith)
+counts-on n d l Addressee h g = (omega arith, omega arith)
+counts-on n d l Tail h g = (omega arith, omega arith)
+counts-on n d l Unknown h g = (omega arith, omega arith)
+
 pub deleghe-on : (n d : ℕ) (k : Kind) → d ≤ n → nextDeleghe d k ≤ n + 1
-deleghe-on n d Head h = omega arith
-deleghe-on n d Taxpayer h = omega arith
-deleghe-on n d Domicile h = omega arith
-deleghe-on n d (Line s) h = omega arith
-deleghe-on n d (Balance s) h = omega arith
-deleghe-on n d Payment h = omega arith
-deleghe-on n d Receipt h = omega arith
-deleghe-on n d Addressee h = omega arith
-deleghe-on n d Tail h = omega arith
-deleghe-on n d Unknown h = omega arith
+deleghe-on n d k h = counts-on n d 0 k h (omega arith) .0
 
 -- the bounds hold before the first record, and after each record
 pub start-below : StateBelow startState
 unfolding startState
-start-below = record { money-below = record { debits = omega arith; credits = omega arith; delegas = zero-below; flows = zero-below }; lines-below = omega arith; deleghe-below = omega arith }
+start-below = record { money-below = record { debits = omega arith; credits = omega arith; delegas = zero-below; flows = zero-below }; lines-below = omega arith; deleghe-below = omega arith; others-below = omega arith }
 
 pub state-on : (st : State) (k : Kind) (x : Sums) → StateBelow st → Small x → StateBelow (nextOf st k x)
 state-on st k x g h =
@@ -96,11 +100,13 @@ state-on st k x g h =
       money-below = rw (let e : (st .seen + 1) * 1_000_000_000_000_000 ≡ st .seen * 1_000_000_000_000_000 + 1_000_000_000_000_000 = omega arith in e) (money-on (st .seen * 1_000_000_000_000_000) (st .money) k x (g .money-below) h);
       lines-below = lines-on (st .seen) (st .stage) k (g .lines-below);
       deleghe-below = deleghe-on (st .seen) (st .deleghe) k (g .deleghe-below);
+      others-below = counts-on (st .seen) 0 (st .others) k (omega arith) (g .others-below) .1;
     }
 
 -- after fewer than a thousand records a state has room for the step over one more
-pub step-room : (st : State) (x : Sums) → StateBelow st → st .seen < 1000 → Small x → (MoneyBelow 1_000_000_000_000_000_000 (st .money) × Small x) × ((st .stage .lines < 1000) × (st .deleghe < 1000) × (st .seen < 1000))
+pub step-room : (st : State) (x : Sums) → StateBelow st → st .seen < 1000 → Small x → (MoneyBelow 1_000_000_000_000_000_000 (st .money) × Small x) × ((st .stage .lines < 1000) × (st .deleghe < 1000) × (st .others < 1000) × (st .seen < 1000))
 step-room st x g f h =
     let l = g .lines-below in
     let d = g .deleghe-below in
-    ((money-room (st .seen * 1_000_000_000_000_000) _ (st .money) (omega arith) (g .money-below), h), (omega arith, omega arith, f))
+    let n = g .others-below in
+    ((money-room (st .seen * 1_000_000_000_000_000) _ (st .money) (omega arith) (g .money-below), h), (omega arith, omega arith, omega arith, f))

@@ -3,3 +3,4 @@ pub mod Reading
 pub mod Growth
 pub mod Numbers
 pub mod NonDigits
+pub mod Others

@@ -35,3 +35,4 @@ pub record StateBelow (st : State) : Type 0 where
   pub money-below : MoneyBelow (st .seen * 1_000_000_000_000_000) (st .money)
   pub lines-below : st .stage .lines ≤ st .seen
   pub deleghe-below : st .deleghe ≤ st .seen
+  pub others-below : st .others ≤ st .seen

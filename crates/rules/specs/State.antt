@@ -23,4 +23,4 @@ abbrev pub startMoney : Money
 startMoney = record { delega = zeroDelega; flow = zeroSections; total = 0 }
 
 unfoldable pub startState : State
-startState = record { stage = stageAt atStart 0 0; deleghe = 0; money = startMoney; seen = 0 }
+startState = record { stage = stageAt atStart 0 0; deleghe = 0; money = startMoney; seen = 0; others = 0 }

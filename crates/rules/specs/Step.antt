@@ -19,6 +19,10 @@ use Rattle.amounts.specs.Amounts.{finalOf}
 abbrev pub nextDeleghe : ℕ → Kind → ℕ
 nextDeleghe d k = ofTaxpayer d (d + 1) k
 
+-- the records that are no lines: each counts but a line
+abbrev pub nextOthers : ℕ → Kind → ℕ
+nextOthers n k = ofLine (n + 1) (λ s. n) k
+
 -- a line's amounts added to sums, and to those of section s in a list
 abbrev pub added : Sums → Sums → Sums
 added t x = record { debit = t .debit + x .debit; credit = t .credit + x .credit }
@@ -51,7 +55,13 @@ lineSums k r = ofLine noSums (λ s. record { debit = valueOf r (amountAt (sectio
 -- the step over a record of a kind with these amounts
 abbrev pub nextOf : State → Kind → Sums → State
 nextOf st k x =
-    record { stage = nextStage (st .stage) k; deleghe = nextDeleghe (st .deleghe) k; money = nextMoney (st .money) k x; seen = st .seen + 1 }
+    record {
+      stage = nextStage (st .stage) k;
+      deleghe = nextDeleghe (st .deleghe) k;
+      money = nextMoney (st .money) k x;
+      seen = st .seen + 1;
+      others = nextOthers (st .others) k;
+    }
 
 -- the state after a record
 unfoldable pub next : State → List ℕ → State

@@ -46,12 +46,13 @@ pub struct Money {
     pub total: u64,
 }
 
-// What the records so far have established.
+// What the records so far have established: among it how many deleghe there have been, how many records, and how many of these are no lines.
 pub struct State {
     pub stage: Stage,
     pub deleghe: u64,
     pub money: Money,
     pub seen: usize,
+    pub others: usize,
 }
 
 // Before the first record.
@@ -75,5 +76,6 @@ pub fn start() -> State
             total: 0,
         },
         seen: 0,
+        others: 0,
     }
 }

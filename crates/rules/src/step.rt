@@ -3,7 +3,7 @@ ghost use mathlib.Core.Path.{_≡_};
 ghost use Prim.Native.Nat.{_<_};
 ghost use Rattle.rules.specs.State.{noSums};
 ghost use Rattle.rules.specs.Bounds.{SumsBelow, MoneyBelow, Small, Room};
-ghost use Rattle.rules.specs.Step.{added, addedAt, nextDeleghe, nextMoney, nextOf};
+ghost use Rattle.rules.specs.Step.{added, addedAt, nextDeleghe, nextOthers, nextMoney, nextOf};
 use crate::DelegaSums;
 use crate::Money;
 use crate::State;
@@ -20,6 +20,17 @@ pub fn next_deleghe(d: u64, k: Kind) -> u64
         return d + 1;
     }
     d
+}
+
+// How many records that are no lines there have been after a record of kind k. They are counted, and not the lines, of which a flow may have many more.
+fn next_others(n: usize, k: Kind) -> usize
+    requires { ⌜ n < 1000 ⌝ }
+    ensures { λ r. ⌜ r ≡ nextOthers n k ⌝ }
+{
+    if let Kind::Line(_) = k {
+        return n;
+    }
+    n + 1
 }
 
 // A line's amounts added to a debit and a credit sum.
@@ -128,18 +139,20 @@ fn next_money(m: Money, k: Kind, x: Sums) -> Money
 // The state after a record of kind k, which, if it is a line, has the amounts x.
 pub fn next_state(st: State, k: Kind, x: Sums) -> State
     requires { ⌜ MoneyBelow 1_000_000_000_000_000_000 (st .money) × Small x ⌝ }
-    requires { ⌜ (st .stage .lines < 1000) × (st .deleghe < 1000) × (st .seen < 1000) ⌝ }
+    requires { ⌜ (st .stage .lines < 1000) × (st .deleghe < 1000) × (st .others < 1000) × (st .seen < 1000) ⌝ }
     ensures { λ r. ⌜ r ≡ nextOf st k x ⌝ }
 {
     let stage = st.stage;
     let money = st.money;
     let p = order::next_stage(stage, k);
     let d = next_deleghe(st.deleghe, k);
+    let others = next_others(st.others, k);
     let m = next_money(money, k, x);
     State {
         stage: p,
         deleghe: d,
         money: m,
         seen: st.seen + 1,
+        others,
     }
 }

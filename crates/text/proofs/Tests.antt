@@ -1,4 +1,4 @@
--- What tests say: one that does not hold, two that are joined, two that agree, one over a list.
+-- What tests say: one that does not hold, two that are joined, two that agree, one that chooses, one over a list.
 use mathlib.Core.Path.{_≡_, refl}
 use mathlib.Core.Bool.{Bool, true, false, cond, false≢true}
 use mathlib.Core.List.{List, [], _∷_}
@@ -23,6 +23,11 @@ alike-same true true e = refl
 alike-same true false e = absurd (false≢true e)
 alike-same false true e = absurd (false≢true e)
 alike-same false false e = refl
+
+-- A fact of both things that a test chooses between is one of the thing chosen.
+pub either-way : {A : Type 0} (P : A → Type 0) (b : Bool) (x y : A) → P x → P y → P (cond b x y)
+either-way P true x y f g = f
+either-way P false x y f g = g
 
 -- Every one of a list passes a test.
 abbrev pub every : {A : Type 0} → (A → Bool) → List A → Bool

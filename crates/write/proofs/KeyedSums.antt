@@ -1,4 +1,4 @@
--- The summary of a flow written from a sheet: the sheet's count of deleghe, a record for each that is written, and the sums of the lines as they are keyed.
+-- The summary of a flow written from a sheet: the sheet's count of deleghe, a record for each that is written, a line for each that is keyed, and the sums of the lines as they are keyed.
 use Prim.Native.Nat.{ℕ, _+_, _-_, _≤_, _<_}
 use mathlib.Core.Path.{_≡_, refl, ap, ap₂, _∙_}
 use mathlib.Core.Bool.{cond}
@@ -22,7 +22,7 @@ use Rattle.rules.specs.Step.{next}
 use Rattle.judge.specs.declared.Judgement.{Judgement}
 use Rattle.judge.specs.Flow.{recordsOf, judged}
 use Rattle.judge.specs.Plain.{sumOver, Side, Debit, Credit, sideOf, columnOf, linesIn}
-use Rattle.judge.proofs.Counts.{seen-after}
+use Rattle.judge.proofs.Counts.{seen-after, accepted-lines}
 use Rattle.judge.proofs.PlainSums.{accepted-section-sums, accepted-total-lines}
 use Rattle.rebalance.specs.Rebalance.{putAll, emit, rebalanced}
 use Rattle.rebalance.proofs.Emit.{emit-kind, emit-plain}
@@ -34,7 +34,7 @@ use Rattle.sheet.proofs.FilledRecords.{length-filled}
 use Rattle.write.specs.declared.Writing.the-variants.{Written}
 use Rattle.write.specs.Writing.{nameIn, writingOf, flowOf}
 use Rattle.write.specs.WhenRefused.{entriesIn, NoEntryFault, MayBeWritten}
-use Rattle.write.specs.Effect.{keyedOver, keyedIn, keyedAll}
+use Rattle.write.specs.Effect.{keyedOver, keyedIn, keyedAll, keyedLines}
 use Rattle.write.proofs.Refusals.{written-exactly}
 use Rattle.write.proofs.Mended.{passes-kind, deleghe-after}
 use Rattle.write.proofs.WrittenFlow.{length-filled-all, entries-in, name-length, records-written, flow-judged, written-accepted}
@@ -106,6 +106,10 @@ module _ (sheet room : List ℕ) (n : ℕ) (e : writingOf sheet room ≡ Written
   same-over f same =
       let a = may .tried .a-sheet in
       ap (sumOver (λ r. ofLine 0 (λ s. f s r) (kindIn r))) (records-written sheet a) ∙ records-number (nameIn sheet) (name-length sheet a) f same startState (entriesIn sheet) (entries-in sheet a .each) (may .passes)
+
+  -- It has as many lines as are keyed.
+  pub written-lines : judged (flowOf sheet) .summary .lines ≡ keyedLines (entriesIn sheet)
+  written-lines = accepted-lines (flowOf sheet) (written-accepted sheet room n e) ∙ same-over (λ s r. 1) (λ s d r g l. refl)
 
   -- One side of all its lines is that of the lines as they are keyed.
   all-lines : (x : Side) → linesIn x (recordsOf (flowOf sheet)) ≡ keyedAll x (entriesIn sheet)

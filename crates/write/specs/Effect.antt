@@ -31,6 +31,10 @@ keyedIn x i es = keyedOver (λ s r. cond (eqb s i) (valueOf r (columnOf x i)) 0)
 abbrev pub keyedAll : Side → List Entry → ℕ
 keyedAll x es = keyedOver (λ s r. valueOf r (columnOf x s)) es
 
+-- The number of lines.
+abbrev pub keyedLines : List Entry → ℕ
+keyedLines es = keyedOver (λ s r. 1) es
+
 -- The writer "fills delega numbers, final balances and the tail's name, counts and sum", and in a balance record that it makes totals, sign and balance: the columns by slot.
 abbrev pub filledColumns : Kind → List Field
 filledColumns Head = []

@@ -1,7 +1,6 @@
 -- `f24::delega_numbers` meets its contract: the five sections of a delega give ten numbers.
 use Rattle.f24.specs.Linked.{delegaNumbers}
-use Rattle.amounts.specs.declared.Sums.{Sums}
-use mathlib.Core.List.{List}
+use Rattle.delega.specs.declared.DelegaAnswer.{DelegaAnswer}
 use mathlib.Core.Path.{_≡_}
 use lib.ListN.{length}
 use Rattle.rules.proofs.Arrays.{struct-array}
@@ -10,55 +9,55 @@ use borrow.Author.Needs.{needs}
 use Rattle.f24.proofs.delega_numbers.Statement.{statement}
 use Rattle.f24.proofs.delega_numbers.Tie as tie
 
-element-copy-out-t6 : tie.Need-element-copy-out-t6
-element-copy-out-t6 c = search needs
+element-copy-out-t5 : tie.Need-element-copy-out-t5
+element-copy-out-t5 c = search needs
 
-element-copy-out-t9 : tie.Need-element-copy-out-t9
-element-copy-out-t9 c = search needs
+element-copy-out-t8 : tie.Need-element-copy-out-t8
+element-copy-out-t8 c = search needs
 
-element-copy-out-t12 : tie.Need-element-copy-out-t12
-element-copy-out-t12 c = search needs
+element-copy-out-t11 : tie.Need-element-copy-out-t11
+element-copy-out-t11 c = search needs
 
-element-copy-out-t15 : tie.Need-element-copy-out-t15
-element-copy-out-t15 c = search needs
+element-copy-out-t14 : tie.Need-element-copy-out-t14
+element-copy-out-t14 c = search needs
 
-element-copy-out-t18 : tie.Need-element-copy-out-t18
-element-copy-out-t18 c = search needs
+element-copy-out-t17 : tie.Need-element-copy-out-t17
+element-copy-out-t17 c = search needs
 
-element-copy-out-t21 : tie.Need-element-copy-out-t21
-element-copy-out-t21 c = search needs
+element-copy-out-t20 : tie.Need-element-copy-out-t20
+element-copy-out-t20 c = search needs
 
-element-copy-out-t24 : tie.Need-element-copy-out-t24
-element-copy-out-t24 c = search needs
+element-copy-out-t23 : tie.Need-element-copy-out-t23
+element-copy-out-t23 c = search needs
 
-element-copy-out-t27 : tie.Need-element-copy-out-t27
-element-copy-out-t27 c = search needs
+element-copy-out-t26 : tie.Need-element-copy-out-t26
+element-copy-out-t26 c = search needs
 
-element-copy-out-t30 : tie.Need-element-copy-out-t30
-element-copy-out-t30 c = search needs
+element-copy-out-t29 : tie.Need-element-copy-out-t29
+element-copy-out-t29 c = search needs
 
-element-copy-out-t33 : tie.Need-element-copy-out-t33
-element-copy-out-t33 c = search needs
+element-copy-out-t32 : tie.Need-element-copy-out-t32
+element-copy-out-t32 c = search needs
 
 returns : tie.Need-returns
 unfolding delegaNumbers
 returns c =
-    let ss : List Sums = c .args .t2 in
-    let five : length ss ≡ 5 = search (needs, struct-array) in
-    rw (five-sums ss five)
+    let d : DelegaAnswer = c .before .args .d in
+    let five : length (d .sums) ≡ 5 = search (needs, struct-array) in
+    rw (five-sums (d .sums) five)
 
 pub delega-numbers-spec : {M : Type 1} → statement M
 delega-numbers-spec =
     tie.close
     (tie.spec
-    element-copy-out-t6
-    element-copy-out-t9
-    element-copy-out-t12
-    element-copy-out-t15
-    element-copy-out-t18
-    element-copy-out-t21
-    element-copy-out-t24
-    element-copy-out-t27
-    element-copy-out-t30
-    element-copy-out-t33
+    element-copy-out-t5
+    element-copy-out-t8
+    element-copy-out-t11
+    element-copy-out-t14
+    element-copy-out-t17
+    element-copy-out-t20
+    element-copy-out-t23
+    element-copy-out-t26
+    element-copy-out-t29
+    element-copy-out-t32
     returns)

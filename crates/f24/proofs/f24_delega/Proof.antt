@@ -1,8 +1,10 @@
 -- `f24::f24_delega` meets its contract: a room that is too short stays as it came, and a longer one holds the refusal or the delega's numbers.
+use Prim.Native.Nat.{ℕ}
+use mathlib.Core.List.{List}
 use mathlib.Core.Path.{sym, ap, _∙_}
 use Rattle.delega.specs.declared.DelegaAnswer.{DelegaAnswer}
-use Rattle.f24.specs.Linked.{delegaCode, delegaRoom}
-use Rattle.f24.proofs.Rooms.{short-code, short-room, long-code, answer-room, refused-room}
+use Rattle.f24.specs.Linked.{overlay, delegaNumbers, delegaCode, delegaRoom}
+use Rattle.f24.proofs.Rooms.{short-code, short-room, long-code, accepted-room, refused-room}
 use Rattle.delega.proofs.Asked.{delega-number}
 use borrow.Author.Needs.{needs}
 use Rattle.f24.proofs.f24_delega.Statement.{statement}
@@ -50,10 +52,10 @@ same-length-2 c = search needs
 returns-3 : tie.Need-returns-3
 unfolding delegaCode delegaRoom
 returns-3 c =
-    let q = c .before .before .before .before .before .before .before .before .before in
-    let e = ap (λ (a : DelegaAnswer). a .verdict) (sym (q .delega .ensures)) ∙ c .before .before .before .before .before .before .before .enum-told .given .1 in
+    let q = c .before .before .before .before .before .before .before .before in
+    let e = ap (λ (a : DelegaAnswer). a .verdict) (sym (q .delega .ensures)) ∙ c .before .before .before .before .before .before .enum-told .given .1 in
     let h = q .before .if1 .left in
-    (long-code _ h (rw e), rw e (answer-room _ _ h (rw (← q .delega .ensures, ← c .before .before .before .before .before .delega-numbers .ensures) (c .before .before .put .ensures))))
+    (long-code _ h (rw e), accepted-room _ _ _ e h (c .before .before .put .ensures ∙ ap (λ (xs : List ℕ). overlay xs (q .before .before .before .before .args .answer .now)) (c .before .before .before .before .before .delega-numbers .ensures ∙ ap delegaNumbers (q .delega .ensures))))
 
 pub f24-delega-spec : {M : Type 1} → statement M
 f24-delega-spec =

@@ -2,7 +2,7 @@
 use mathlib.Core.Path.{sym, ap, _∙_}
 use Rattle.judge.specs.declared.Judgement.{Judgement}
 use Rattle.f24.specs.Linked.{judgeCode, judgeRoom}
-use Rattle.f24.proofs.Rooms.{short-code, short-room, long-code, answer-room, refused-room}
+use Rattle.f24.proofs.Rooms.{short-code, short-room, long-code, accepted-room, refused-room}
 use Rattle.judge.proofs.FirstFault.{judgement-number}
 use borrow.Author.Needs.{needs}
 use Rattle.f24.proofs.f24_judge.Statement.{statement}
@@ -53,7 +53,7 @@ returns-3 c =
     let q = c .before .before .before .before .before .before .before .before in
     let e = ap (λ (j : Judgement). j .verdict) (sym (q .judge .ensures)) ∙ c .before .before .before .before .before .before .enum-told .given .1 in
     let h = q .before .if1 .left in
-    (long-code _ h (rw e), rw e (answer-room _ _ h (rw (← q .judge .ensures, ← c .before .before .before .before .before .summary-numbers .ensures) (c .before .before .put .ensures))))
+    (long-code _ h (rw e), accepted-room _ _ _ e h (rw (← q .judge .ensures, ← c .before .before .before .before .before .summary-numbers .ensures) (c .before .before .put .ensures)))
 
 pub f24-judge-spec : {M : Type 1} → statement M
 f24-judge-spec =

@@ -340,7 +340,7 @@ records-holds : tie.Need-records-holds Inv-loop μ-loop Inv-records μ-records
 records-holds c = (record { ahead = c .before .before .before .before .pre .ahead; rest = refl; below = c .before .before .before .before .pre .below }, omega arith, c .before .clean-records .ensures .behind, c .number-word .ensures)
 
 ended-requires : tie.Need-ended-requires Inv-loop μ-loop Inv-records μ-records
-ended-requires c κs = (refl, let a = c .before .records .inv .0 .ahead in omega arith, let a = c .before .records .inv .0 .ahead in omega (arith, c .before .before .before .before .before .before .pre .short))
+ended-requires c κs = (refl, let a = c .before .records .inv .0 .ahead in omega arith, let a = c .before .records .inv .0 .ahead in omega (arith, c .before .before .before .before .before .before .pre .short), c .before .records .inv .0 .below .others-below)
 
 mul-record-at : tie.Need-mul-record-at Inv-loop μ-loop Inv-records μ-records
 mul-record-at c = search needs

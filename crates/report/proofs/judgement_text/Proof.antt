@@ -1,6 +1,7 @@
 -- `report::judgement_text` meets its contract: a short room is left as it came, and else the text of either verdict is printed.
 use native.Mathlib.Omega.{arith}
 use borrow.Author.Needs.{needs}
+use Rattle.report.specs.Printed.{judgementText}
 use Rattle.report.proofs.Appending.{printed-all, printed-none, accepted-text, refused-text}
 use Rattle.report.proofs.judgement_text.Statement.{statement}
 use Rattle.report.proofs.judgement_text.Tie as tie
@@ -24,16 +25,18 @@ same-length : tie.Need-same-length
 same-length c = search needs
 
 returns-2 : tie.Need-returns-2
+unfolding judgementText
 returns-2 c =
-    rw (accepted-text (c .before .before .before .before .before .before .before .before .before .args .j) (c .before .before .before .before .before .enum-told .given .1))
+    rw (accepted-text (c .before .before .before .before .before .before .before .before .before .args .j .verdict) _ (c .before .before .before .before .before .enum-told .given .1))
     (printed-all (omega arith) (omega arith) (c .before .before .put-accepted .ensures))
 
 same-length-2 : tie.Need-same-length-2
 same-length-2 c = search needs
 
 returns-3 : tie.Need-returns-3
+unfolding judgementText
 returns-3 c =
-    rw (refused-text (c .before .before .before .before .before .before .before .before .before .args .j) (c .before .before .before .before .before .verdict .given .1))
+    rw (refused-text (c .before .before .before .before .before .before .before .before .before .args .j .verdict) _ (c .before .before .before .before .before .verdict .given .1))
     (printed-all (omega arith) (omega arith) (c .before .before .put-refused .ensures))
 
 pub judgement-text-spec : {M : Type 1} → statement M

@@ -1,4 +1,4 @@
--- `report::put_accepted` meets its contract: the word, the three numbers of the first line, and then the lines of the sections.
+-- `report::put_accepted` meets its contract: the word, the four numbers of the first line, and then the lines of the sections.
 use borrow.Author.Needs.{needs}
 use Rattle.report.specs.Printed.{acceptedText}
 use Rattle.report.proofs.Appending.{append-on}
@@ -14,6 +14,9 @@ put-word-requires c κs = search needs
 put-field-requires : tie.Need-put-field-requires
 put-field-requires c κs = search needs
 
+put-field-requires-2 : tie.Need-put-field-requires-2
+put-field-requires-2 c κs = search needs
+
 put-pair-requires : tie.Need-put-pair-requires
 put-pair-requires c κs = search needs
 
@@ -26,9 +29,10 @@ same-length c = search needs
 returns : tie.Need-returns
 unfolding acceptedText
 returns c =
-    append-on (c .before .before .before .before .before .before .before .before .before .before .before .before .before .before .put-word .ensures)
-    (append-on (c .before .before .before .before .before .before .before .before .before .before .put-field .ensures)
-    (append-on (c .before .before .before .before .before .before .put-pair .ensures) (c .before .before .put-sections .ensures)))
+    append-on (c .before .before .before .before .before .before .before .before .before .before .before .before .before .before .before .before .before .before .put-word .ensures)
+    (append-on (c .before .before .before .before .before .before .before .before .before .before .before .before .before .before .put-field .ensures)
+    (append-on (c .before .before .before .before .before .before .before .before .before .before .put-field2 .ensures)
+    (append-on (c .before .before .before .before .before .before .put-pair .ensures) (c .before .before .put-sections .ensures))))
 
 pub put-accepted-spec : {M : Type 1} → statement M
 put-accepted-spec =
@@ -37,6 +41,7 @@ put-accepted-spec =
     slice-aggregate-put-word
     put-word-requires
     put-field-requires
+    put-field-requires-2
     put-pair-requires
     put-sections-requires
     same-length

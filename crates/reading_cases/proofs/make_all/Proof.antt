@@ -1,18 +1,15 @@
--- `reading_cases::main` is safe and ends: its counter rises to ten thousand.
+-- `reading_cases::make_all` is safe and ends: its counter rises to ten thousand.
 use Prim.Native.Nat.{_-_}
 use native.Mathlib.Omega.{arith}
 use borrow.Author.Needs.{needs}
-use Rattle.reading_cases.proofs.main.Statement.{statement}
-use Rattle.reading_cases.proofs.main.Tie as tie
+use Rattle.reading_cases.proofs.make_all.Statement.{statement}
+use Rattle.reading_cases.proofs.make_all.Tie as tie
 
 abbrev Inv-loop : tie.InvT-loop
-Inv-loop fd counter₀ counter = Unit {0}
+Inv-loop path fd counter₀ counter = Unit {0}
 
 abbrev μ-loop : tie.MeasureT-loop
-μ-loop fd counter₀ counter = 10000 - counter
-
-slice-aggregate-open-cases : tie.Need-slice-aggregate-open-cases Inv-loop μ-loop
-slice-aggregate-open-cases c = search needs
+μ-loop path fd counter₀ counter = 10000 - counter
 
 open-cases-requires : tie.Need-open-cases-requires Inv-loop μ-loop
 open-cases-requires c κs = tt
@@ -38,13 +35,12 @@ close-requires c κs = tt
 returns : tie.Need-returns Inv-loop μ-loop
 returns c = tt
 
-pub main-spec : {M : Type 1} → statement M
-main-spec =
+pub make-all-spec : {M : Type 1} → statement M
+make-all-spec =
     tie.close
     (tie.spec
     Inv-loop
     μ-loop
-    slice-aggregate-open-cases
     open-cases-requires
     loop-holds
     one-case-requires
