@@ -52,10 +52,7 @@ pub fn write(seed: u64, count: u64, data_to: &str, stdout_to: &str) -> io::Resul
         let (answer, set) = print(&mut lines, &flow, number)?;
         answers[answer] += 1;
         sets[set] += 1;
-        if data.len() > MOST_WRITTEN {
-            let message = format!("{written} calls are more than {MOST_WRITTEN} bytes: ask for fewer");
-            return Err(io::Error::new(io::ErrorKind::InvalidInput, message));
-        }
+        frames::within(MOST_WRITTEN, &data, written, "calls")?;
     }
     fs::write(data_to, &data)?;
     fs::write(stdout_to, &lines)?;

@@ -21,6 +21,15 @@ pub fn write_call(out: &mut impl Write, name: &str, numbers: [u64; 5], bytes: &[
     out.write_all(b"\n")
 }
 
+/// An error where the frames of so many flows, sheets or calls have become too long.
+pub fn within(most: usize, frames: &[u8], written: u64, what: &str) -> io::Result<()> {
+    if frames.len() <= most {
+        return Ok(());
+    }
+    let message = format!("{written} {what} are more than {most} bytes: ask for fewer");
+    Err(io::Error::new(io::ErrorKind::InvalidInput, message))
+}
+
 /// The name and the bytes of each flow.
 pub fn read(mut frames: &[u8]) -> Option<Vec<(String, &[u8])>> {
     let mut all = Vec::new();

@@ -66,10 +66,7 @@ pub fn write(seed: u64, count: u64, data_to: &str, stdout_to: &str) -> io::Resul
         let name = format!("random-{written:04}");
         one(&name, &case, &mut data, &mut lines)?;
         tally[answer] += 1;
-        if data.len() > MOST_WRITTEN {
-            let message = format!("{written} sheets are more than {MOST_WRITTEN} bytes: ask for fewer");
-            return Err(io::Error::new(io::ErrorKind::InvalidInput, message));
-        }
+        frames::within(MOST_WRITTEN, &data, written, "sheets")?;
     }
     fs::write(data_to, &data)?;
     fs::write(stdout_to, &lines)?;

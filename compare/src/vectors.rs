@@ -57,10 +57,7 @@ pub fn write(seed: u64, count: u64, flows: &str, stdout: &str) -> io::Result<()>
         writeln!(lines, "{name}")?;
         tally[print(&mut lines, &flow)?] += 1;
         written += 1;
-        if data.len() > MOST_WRITTEN {
-            let message = format!("{written} flows are more than {MOST_WRITTEN} bytes: ask for fewer");
-            return Err(io::Error::new(io::ErrorKind::InvalidInput, message));
-        }
+        frames::within(MOST_WRITTEN, &data, written, "flows")?;
     }
     fs::write(flows, &data)?;
     fs::write(stdout, &lines)?;

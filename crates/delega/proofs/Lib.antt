@@ -1,12 +1,12 @@
-pub mod Sets
-pub mod Uses
 pub mod Search
 pub mod Asked
 pub mod Moves
 pub mod OwnRecords
 pub mod Held
 pub mod PlainAnswer
-pub mod SectionsUsed
 pub mod WhenAnswered
+pub mod Sets
+pub mod Uses
+pub mod SectionsUsed
 pub mod Zeros
 pub mod Samples

@@ -15,5 +15,5 @@ abbrev pub oneDelega : Judgement
 oneDelega = record { verdict = Accepted; summary = record { deleghe = 1; records = 8; total = 7500; lines = 2; sums = regioni } }
 
 -- the delega by itself: two lines, all of Regioni, whose number is 4
-abbrev pub itsDelega : DelegaAnswer
-itsDelega = record { verdict = Accepted; balance = 7500; lines = 2; set = 4; size = 1; first = 2; sums = regioni }
+abbrev pub printedDelega : DelegaAnswer
+printedDelega = record { verdict = Accepted; balance = 7500; lines = 2; set = 4; size = 1; first = 2; sums = regioni }

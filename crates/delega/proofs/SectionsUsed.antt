@@ -1,15 +1,14 @@
 -- For an accepted flow and a number from 1 to the count: the lines of the delega are those that carry its number, its set has the bit of a section exactly when it has a line of that section, the size of
 -- the set is the number of its balance records, and the first of the set is the first section that has a line.
-use Prim.Native.Nat.{ℕ, zero, suc, _+_, _*_, _^_, _<_, _≤_}
-use mathlib.Core.Path.{_≡_, refl, sym, ap, _∙_}
+use Prim.Native.Nat.{ℕ, zero, suc, _+_, _^_, _<_, _≤_}
+use mathlib.Core.Path.{_≡_, refl, ap, _∙_}
 use mathlib.Core.Bool.{Bool, true, false, cond}
 use mathlib.Core.List.{List}
 use mathlib.Core.Logic.{_↔_}
 use native.Mathlib.Omega.{arith}
 use native.Mathlib.Nat.{zero-div}
 use borrow.Author.Tests.{lt-ltb}
-use lib.Dec.{eqb, ltb, lit<}
-use lib.Bits.{bitOr}
+use lib.Dec.{eqb, lit<}
 use Rattle.layout.specs.Kinds.{ofLine, kindIn}
 use Rattle.amounts.specs.declared.Outcome.the-variants.{Pass}
 use Rattle.rules.specs.State.{startState}
@@ -20,14 +19,14 @@ use Rattle.judge.specs.Plain.{sumOver}
 use Rattle.judge.proofs.Accepted.{accepted-means-no-fault}
 use Rattle.delega.specs.declared.used.Used.{Used}
 use Rattle.delega.specs.declared.DelegaAnswer.{DelegaAnswer}
-use Rattle.delega.specs.Used.{bitOf, noneUsed, usedWith, nextUsed, firstOf}
+use Rattle.delega.specs.Used.{noneUsed, usedWith, nextUsed, firstOf}
 use Rattle.delega.specs.OneDelega.{noSuchDelega, answered, delegaOf}
-use Rattle.delega.specs.PlainDelega.{ofDelega, lineCountOf, sectionCountOf, balancesOf, bitAt, someOf}
+use Rattle.delega.specs.PlainDelega.{ofDelega, lineCountOf, sectionCountOf, balancesOf, bitAt, someOf, addedUp}
 use Rattle.delega.proofs.Asked.{delega-within}
 use Rattle.delega.proofs.Moves.{standing-of}
 use Rattle.delega.proofs.OwnRecords.{own-numbers}
 use Rattle.delega.proofs.PlainAnswer.{delega-from-closing, each-of, ends}
-use Rattle.delega.proofs.Sets.{put-section, first-section, addedUp, bits-added}
+use Rattle.delega.proofs.Sets.{put-section, first-section, bits-added}
 use Rattle.delega.proofs.Uses.{Using, counts, counts-own, using-start, using-next, using-behind, used-at-payment}
 
 -- the lines and the set of an answer

@@ -2,7 +2,6 @@
 use Prim.Native.Nat.{ℕ, zero, suc, _+_, _*_, _%_, _^_, _≤_, _<_}
 use mathlib.Core.Path.{_≡_, sym}
 use mathlib.Core.Bool.{Bool, true, false, cond}
-use mathlib.Core.List.{[], _∷_}
 use native.Mathlib.Omega.{arith}
 use native.Mathlib.Nat.{add-zero, zero-add, add-suc, suc-add, zero-div}
 use lib.Dec.{T, eqb, ltb, eqb→eq, ltb→lt, lt→ltb, lit<}
@@ -10,13 +9,13 @@ use lib.ListN.{List·getD-eq-default}
 use lib.Bits.{bitOr}
 use lib.Count.{ones, trailingZeros}
 use Rattle.layout.proofs.Table.{both, both-left, both-right}
-use Rattle.delega.specs.Used.{bitOf, sizeOf, firstOf}
-use Rattle.delega.specs.PlainDelega.{bitAt}
+use Rattle.delega.specs.Used.{sectionBits, bitOf, sizeOf, firstOf}
+use Rattle.delega.specs.PlainDelega.{bitAt, addedUp}
 
 -- past the fifth section there is no bit
 pub bit-none : (s : ℕ) → 5 ≤ s → 0 ≡ bitOf s
 unfolding bitOf
-bit-none s h = sym (List·getD-eq-default (1 ∷ 2 ∷ 4 ∷ 8 ∷ 16 ∷ []) 0 h)
+bit-none s h = sym (List·getD-eq-default sectionBits 0 h)
 
 -- a test passes at each of the n numbers from lo on, and so at each number below n
 abbrev run : (ℕ → Bool) → ℕ → ℕ → Bool
@@ -93,10 +92,7 @@ first-section x i p h =
       λ l. eqb→eq _ _ (only-if (ltb i (firstOf x)) _ (both-right (eqb (bitAt x (firstOf x)) 1) _ (both-right (ltb (firstOf x) 5) _ (at i (omega arith)))) (lt→ltb _ _ l)),
     )
 
--- "1, 2, 4, 8, 16 added"
-abbrev pub addedUp : (ℕ → ℕ) → ℕ
-addedUp f = f 0 + 2 * f 1 + 4 * f 2 + 8 * f 3 + 16 * f 4
-
+-- a set is its bits, added
 pub bits-added : (x : ℕ) → x < 32 → x ≡ addedUp (bitAt x)
 bits-added x h = eqb→eq _ _ (below (λ (y : ℕ). eqb y (addedUp (bitAt y))) 32 tt x h)
 

@@ -1,5 +1,5 @@
 -- Over records that stand in order: the set of the open delega at each stage, which sections are in it, and how many balances they have.
-use Prim.Native.Nat.{ℕ, zero, suc, _+_, _*_, _/_, _%_, _^_, _<_, _≤_}
+use Prim.Native.Nat.{ℕ, _+_, _^_, _<_}
 use mathlib.Core.Path.{_≡_, refl, sym, ap, _∙_}
 use mathlib.Core.Bool.{Bool, true, false, cond, false≢true}
 use mathlib.Core.List.{List, [], _∷_}
@@ -14,7 +14,7 @@ use lib.Pow.{pow-pos, pow-mono}
 use Rattle.text.proofs.Tests.{both-true}
 use Rattle.layout.specs.declared.Kind.{Kind}
 use Rattle.layout.specs.declared.Kind.the-variants.{Head, Taxpayer, Domicile, Line, Balance, Payment, Receipt, Addressee, Tail, Unknown}
-use Rattle.layout.specs.Kinds.{ofLine, ofPayment, kindIn}
+use Rattle.layout.specs.Kinds.{ofLine, ofBalance, ofPayment, kindIn}
 use Rattle.layout.specs.Fields.{delegaNumber, valueOf}
 use Rattle.layout.proofs.InTable.{sectionOf, section-within}
 use Rattle.amounts.specs.declared.Outcome.the-variants.{Pass}
@@ -29,14 +29,15 @@ use Rattle.judge.specs.Plain.{Side, Debit, Credit}
 use Rattle.judge.proofs.Accepted.{carried-number}
 use Rattle.delega.specs.declared.used.Used.{Used}
 use Rattle.delega.specs.Used.{bitOf, noneUsed, usedWith, nextUsed, sizeOf}
-use Rattle.delega.specs.PlainDelega.{balances, bitAt}
+use Rattle.delega.specs.PlainDelega.{bitAt}
 use Rattle.delega.proofs.Moves.{openAt, Between, Standing, among-open, line-open, balance-open, Quiet}
 use Rattle.delega.proofs.Sets.{put-section, same-section, new-section, some-bit}
 
--- behind the last section that a set may have at a stage, and 1 where the section that is open has no balance yet
+-- no set of an open delega has a bit from here on: none at all before its first line, then none behind the latest section
 abbrev topAt : Stage → ℕ
-topAt p = cond (ltb (p .phase) 4) 1 (2 ^ (p .section + 1))
+topAt p = cond (ltb (p .phase) afterLine) 1 (2 ^ (p .section + 1))
 
+-- 1 where the latest section has no balance yet
 abbrev openLines : Stage → ℕ
 openLines p = cond (eqb (p .phase) afterLine) 1 0
 
@@ -44,7 +45,7 @@ openLines p = cond (eqb (p .phase) afterLine) 1 0
 pub record SetAt (p : Stage) (x k : ℕ) : Type 0 where
   pub small : x < 32
   pub behind : x < topAt p
-  pub latest : ltb 3 (p .phase) ≡ true → (p .section < 5) × (bitAt x (p .section) ≡ 1)
+  pub latest : ltb afterDomicile (p .phase) ≡ true → (p .section < 5) × (bitAt x (p .section) ≡ 1)
   pub counted : sizeOf x ≡ k + openLines p
 
 -- a record 10 opens a delega that uses none
@@ -60,7 +61,7 @@ balance-set p s x k e f h =
     record {
       small = h .small;
       behind = rw f (rw e at (h .behind));
-      latest = λ q. rw f (h .latest (ap (ltb 3) e));
+      latest = λ q. rw f (h .latest (ap (ltb afterDomicile) e));
       counted = omega (arith, rw e at (h .counted));
     }
 
@@ -85,7 +86,7 @@ line-set p s n x k l o h = go (eqb (p .phase) afterDomicile) (eqb (p .phase) aft
     go false true c i j m q =
         let e = eqb-true (p .phase) afterLine j in
         let f = eqb-true s (p .section) q in
-        let g = h .latest (ap (ltb 3) e) in
+        let g = h .latest (ap (ltb afterDomicile) e) in
         rw (same-section x s (h .small) l (rw f (g .1)))
         (record { small = h .small; behind = rw f (rw e at (h .behind)); latest = λ y. rw f g; counted = rw e at (h .counted) })
     go false false true i j m q =
@@ -111,7 +112,7 @@ module _ (f : ℕ → ℕ) (Counted : Used → ℕ → Type 0) (blank : Counted 
   stays-open : (p q : Stage) (u w : Used) (h k m n : ℕ) → openAt (p .phase) ≡ 1 → openAt (q .phase) ≡ 1 → (Counted u h × SetAt p (u .set) k → Counted w m × SetAt q (w .set) n) → Using p u h k → Using q w m n
   stays-open p q u w h k m n e o t g = record { closed = λ z. absurd (omega arith); opened = λ z. t (g .opened e) }
 
-  using-on : (p : Stage) (u : Used) (h k : ℕ) (t : Kind) → sectionOf t < 5 → stands p t ≡ true → ofPayment false true t ≡ false → Using p u h k → Using (nextStage p t) (nextUsed u t) (h + ofLine 0 f t) (k + balances t)
+  using-on : (p : Stage) (u : Used) (h k : ℕ) (t : Kind) → sectionOf t < 5 → stands p t ≡ true → ofPayment false true t ≡ false → Using p u h k → Using (nextStage p t) (nextUsed u t) (h + ofLine 0 f t) (k + ofBalance 0 (λ s. 1) t)
   unfolding stands
   using-on p u h k Head l o z g = stays-closed p _ u _ h k (ap openAt (eqb-true (p .phase) atStart o)) refl g
   using-on p u h k Taxpayer l o z g =
@@ -138,10 +139,10 @@ module _ (f : ℕ → ℕ) (Counted : Used → ℕ → Type 0) (blank : Counted 
   -- what a record counts: a line what its section does, a balance 1
   abbrev pub counts : Side → List ℕ → ℕ
   counts Debit r = ofLine 0 f (kindIn r)
-  counts Credit r = balances (kindIn r)
+  counts Credit r = ofBalance 0 (λ s. 1) (kindIn r)
 
   -- a balance carries its delega's number
-  balance-own : (n : ℕ) (st : State) (t : Kind) (v : ℕ) → Between n st → stands (st .stage) t ≡ true → numberFault (st .deleghe) t v ≡ Pass → (balances t ≡ 0) ⊎ (v ≡ n + 1)
+  balance-own : (n : ℕ) (st : State) (t : Kind) (v : ℕ) → Between n st → stands (st .stage) t ≡ true → numberFault (st .deleghe) t v ≡ Pass → (_≡_ {A = ℕ} (ofBalance 0 (λ s. 1) t) 0) ⊎ (v ≡ n + 1)
   unfolding stands numberFault
   balance-own n st Head v b o c = inl refl
   balance-own n st Taxpayer v b o c = inl refl
@@ -179,5 +180,5 @@ module _ (f : ℕ → ℕ) (Counted : Used → ℕ → Type 0) (blank : Counted 
   used-at-payment st u r e s h k g =
       let p = eqb-true (st .stage .phase) afterBalance (rw e at (s .ordered)) in
       let a = g .opened (ap openAt p) in
-      let l = a .1 .latest (ap (ltb 3) p) in
-      (rw (e, add-zero) (a .0), omega (arith, ap balances e, rw p at (a .1 .counted)), a .1 .small, some-bit (u .set) (st .stage .section) (l .1))
+      let l = a .1 .latest (ap (ltb afterDomicile) p) in
+      (rw (e, add-zero) (a .0), omega (arith, ap (λ (t : Kind). ofBalance {A = ℕ} 0 (λ s. 1) t) e, rw p at (a .1 .counted)), a .1 .small, some-bit (u .set) (st .stage .section) (l .1))

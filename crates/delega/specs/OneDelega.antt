@@ -24,7 +24,7 @@ refusedAs n r p = record { verdict = Refused n r p; balance = 0; lines = 0; set 
 abbrev pub noSuchDelega : DelegaAnswer
 noSuchDelega = refusedAs 21 0 0
 
--- "For one delega its final balance and its ten section sums are given", and the lines and the set of sections that it uses: those of the delega that is open after the records that led to a state
+-- "For one delega its final balance and its ten section sums are given", its lines, the set of sections that it uses with its size and its first: those of the delega that is open after the records that led to a state
 abbrev pub answered : State → Used → DelegaAnswer
 answered st u =
     record {

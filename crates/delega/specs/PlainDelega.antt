@@ -1,13 +1,14 @@
--- For theorems. What the answer for one delega is measured by: plain counts and sums over the records that carry its number.
-use Prim.Native.Nat.{ℕ, _/_, _%_, _^_}
+-- For theorems. What the answer for one delega is measured by: plain counts and sums over the records that carry its number, the bits of a set, zeros beside a refusal.
+use Prim.Native.Nat.{ℕ, _+_, _*_, _/_, _%_, _^_}
 use mathlib.Core.Bool.{cond}
 use mathlib.Core.List.{List}
 use lib.Dec.{eqb, ltb}
-use Rattle.layout.specs.declared.Kind.{Kind}
-use Rattle.layout.specs.declared.Kind.the-variants.{Head, Taxpayer, Domicile, Line, Balance, Payment, Receipt, Addressee, Tail, Unknown}
-use Rattle.layout.specs.Kinds.{ofLine, ofPayment, kindIn}
+use lib.ListN.{replicate}
+use Rattle.layout.specs.Kinds.{ofLine, ofBalance, ofPayment, kindIn}
 use Rattle.layout.specs.Fields.{delegaNumber, finalBalance, valueOf}
+use Rattle.judge.specs.declared.Verdict.{Verdict}
 use Rattle.judge.specs.Plain.{sumOver, Side, columnOf}
+use Rattle.delega.specs.declared.DelegaAnswer.{DelegaAnswer}
 
 -- a number for a record that carries the number d, and 0 for any other
 abbrev pub ofDelega : ℕ → List ℕ → ℕ → ℕ
@@ -37,22 +38,9 @@ lineCountOf d rs = sumOver (λ r. ofDelega d r (ofLine 0 (λ s. 1) (kindIn r))) 
 abbrev pub sectionCountOf : ℕ → ℕ → List (List ℕ) → ℕ
 sectionCountOf d i rs = sumOver (λ r. ofDelega d r (ofLine 0 (λ s. cond (eqb s i) 1 0) (kindIn r))) rs
 
--- 1 for the balance of a section, and 0 for a record of any other kind
-abbrev pub balances : Kind → ℕ
-balances Head = 0
-balances Taxpayer = 0
-balances Domicile = 0
-balances (Line s) = 0
-balances (Balance s) = 1
-balances Payment = 0
-balances Receipt = 0
-balances Addressee = 0
-balances Tail = 0
-balances Unknown = 0
-
 -- the number of its balance records
 abbrev pub balancesOf : ℕ → List (List ℕ) → ℕ
-balancesOf d rs = sumOver (λ r. ofDelega d r (balances (kindIn r))) rs
+balancesOf d rs = sumOver (λ r. ofDelega d r (ofBalance 0 (λ s. 1) (kindIn r))) rs
 
 -- bit i of a number: 1 or 0
 abbrev pub bitAt : ℕ → ℕ → ℕ
@@ -61,3 +49,11 @@ bitAt x i = x / 2 ^ i % 2
 -- 1 where there is one at least, and 0 where there is none
 abbrev pub someOf : ℕ → ℕ
 someOf n = cond (ltb 0 n) 1 0
+
+-- "1, 2, 4, 8, 16 added, in 01's order": as often as f says of each section
+abbrev pub addedUp : (ℕ → ℕ) → ℕ
+addedUp f = f 0 + 2 * f 1 + 4 * f 2 + 8 * f 3 + 16 * f 4
+
+-- a verdict, with zeros for all that an answer has besides
+abbrev pub zerosBeside : Verdict → DelegaAnswer
+zerosBeside v = record { verdict = v; balance = 0; lines = 0; set = 0; size = 0; first = 0; sums = replicate 5 (record { debit = 0; credit = 0 }) }

@@ -1,6 +1,6 @@
 -- Believed. What the open delega uses: how many lines, and which of the five sections, as one number with one bit per section.
 use Prim.Native.Nat.{ℕ, _+_}
-use mathlib.Core.List.{[], _∷_}
+use mathlib.Core.List.{List, [], _∷_}
 use lib.ListN.{getD}
 use lib.Bits.{bitOr}
 use lib.Count.{ones, trailingZeros}
@@ -8,9 +8,13 @@ use Rattle.layout.specs.declared.Kind.{Kind}
 use Rattle.layout.specs.Kinds.{ofLine, ofTaxpayer}
 use Rattle.delega.specs.declared.used.Used.{Used}
 
--- "1, 2, 4, 8, 16 .., in 01's order": the bit of section s
+-- "1, 2, 4, 8, 16 .., in 01's order": the bits of the sections
+abbrev pub sectionBits : List ℕ
+sectionBits = 1 ∷ 2 ∷ 4 ∷ 8 ∷ 16 ∷ []
+
+-- the bit of section s
 unfoldable pub bitOf : ℕ → ℕ
-bitOf s = getD (1 ∷ 2 ∷ 4 ∷ 8 ∷ 16 ∷ []) s 0
+bitOf s = getD sectionBits s 0
 
 -- no line, and no section
 abbrev pub noneUsed : Used

@@ -1,4 +1,4 @@
-// Prints the final balance and the section sums of one delega of the flow in a file.
+// Prints the final balance, the lines, the sections used and the section sums of one delega of the flow in a file.
 use args::Argument;
 use layout::Flow;
 

@@ -14,13 +14,13 @@ use Rattle.layout.specs.declared.RecordType.the-variants.{F4, T10, T20, T40, T5
 use Rattle.layout.specs.declared.Kind.{Kind}
 use Rattle.layout.specs.declared.Kind.the-variants.{Taxpayer, Line, Balance, Payment, Receipt, Addressee, Unknown}
 use Rattle.layout.specs.Sections.{sections}
-use Rattle.layout.specs.Kinds.{sectionKindFrom, paymentKind, kindOf, typeIn, subtypeIn, kindIn, ofLine}
+use Rattle.layout.specs.Kinds.{sectionKindFrom, paymentKind, kindOf, typeIn, subtypeIn, kindIn}
 use Rattle.amounts.specs.declared.Outcome.the-variants.{Pass}
 use Rattle.rules.specs.declared.State.{State}
 use Rattle.rules.specs.State.{startState}
 use Rattle.rules.specs.Checks.{fault}
 use Rattle.rules.specs.Step.{nextDeleghe, next}
-use Rattle.rules.proofs.Others.{line-or-other}
+use Rattle.rules.proofs.Others.{counted-once}
 use Rattle.judge.specs.declared.Verdict.the-variants.{Accepted}
 use Rattle.judge.specs.declared.Summary.{Summary}
 use Rattle.judge.specs.declared.Judgement.{Judgement}
@@ -123,7 +123,7 @@ accepted-deleghe s e =
 lines-or-others : (st : State) (rs : List (List ℕ)) → stateAfter st rs .others + lineCountIn rs ≡ st .others + length rs
 unfolding stateAfter next sumOver
 lines-or-others st [] = omega arith
-lines-or-others st (r ∷ rs) = omega (arith, lines-or-others (next st r) rs, line-or-other (st .others) (kindIn r))
+lines-or-others st (r ∷ rs) = omega (arith, lines-or-others (next st r) rs, counted-once (st .others) (kindIn r))
 
 -- so the lines after all records are the records that are lines
 pub lines-after : (rs : List (List ℕ)) → summaryOf (stateAfter startState rs) .lines ≡ lineCountIn rs

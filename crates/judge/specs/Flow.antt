@@ -26,7 +26,7 @@ noSummary = record { deleghe = 0; records = 0; total = 0; lines = 0; sums = zero
 abbrev pub refusedWith : ℕ → ℕ → ℕ → Judgement
 refusedWith n r p = record { verdict = Refused n r p; summary = noSummary }
 
--- "An accepted flow answers the number of deleghe, the number of records, the sum of final balances, and the debit and credit sums for each of the five sections"; "The summary of a flow .. gains the line count"
+-- "An accepted flow answers the number of deleghe, the number of records, the sum of final balances, and the debit and credit sums for each of the five sections"; "The summary of a flow .. gains the line count": the records seen less those that are no lines
 abbrev pub summaryOf : State → Summary
 summaryOf st = record { deleghe = st .deleghe; records = st .seen; total = st .money .total; lines = st .seen - st .others; sums = st .money .flow }
 

@@ -4,7 +4,7 @@ use mathlib.Core.Path.{_≡_}
 use mathlib.Core.Bool.{true, false, cond}
 use mathlib.Core.List.{List, [], _∷_, _++_, map}
 use lib.Dec.{eqb}
-use lib.ListN.{length, take, drop}
+use lib.ListN.{length, take, drop, replicate}
 use Rattle.text.specs.declared.Characters.the-variants.{Allowed}
 use Rattle.text.specs.Characters.{firstBad}
 use Rattle.text.specs.Numbers.{numberOf}
@@ -30,6 +30,7 @@ use Rattle.taxcode.specs.TaxCodes.{codeRight}
 use Rattle.rules.specs.Stored.{Stored, storedOf, right, faultOf}
 use Rattle.rules.specs.Checks.{charFault, orBad, badFields, numberFault, ownChecks, fault}
 use Rattle.rules.specs.Step.{next}
+use Rattle.judge.specs.declared.Summary.{Summary}
 use Rattle.judge.specs.Refusal.{Refusal, refusal}
 use Rattle.judge.specs.Flow.{recordsOf, headNameOf}
 use Rattle.judge.specs.Part.{recordAt}
@@ -93,6 +94,10 @@ lastOf x (r ∷ rs) = lastOf r rs
 unfoldable pub stateAfter : State → List (List ℕ) → State
 stateAfter st [] = st
 stateAfter st (r ∷ rs) = stateAfter (next st r) rs
+
+-- a summary in which every number is zero
+abbrev pub zeros : Summary
+zeros = record { deleghe = 0; records = 0; total = 0; lines = 0; sums = replicate 5 (record { debit = 0; credit = 0 }) }
 
 -- no record of a list has a fault
 abbrev pub NoFault : List ℕ → State → List (List ℕ) → Type 0

@@ -86,6 +86,19 @@ ofLine other f Addressee = other
 ofLine other f Tail = other
 ofLine other f Unknown = other
 
+-- one value for the balance of section s, and another for a record of any other kind
+abbrev pub ofBalance : {A : Type 0} → A → (ℕ → A) → Kind → A
+ofBalance other f Head = other
+ofBalance other f Taxpayer = other
+ofBalance other f Domicile = other
+ofBalance other f (Line s) = other
+ofBalance other f (Balance s) = f s
+ofBalance other f Payment = other
+ofBalance other f Receipt = other
+ofBalance other f Addressee = other
+ofBalance other f Tail = other
+ofBalance other f Unknown = other
+
 -- one value for a record 10, and another for a record of any other kind
 abbrev pub ofTaxpayer : {A : Type 0} → A → A → Kind → A
 ofTaxpayer other x Head = other

@@ -5,7 +5,7 @@ use mathlib.Core.List.{List, [], _∷_}
 use Rattle.text.specs.Numbers.{digitsOf}
 use Rattle.layout.specs.Sections.{sectionAt}
 use Rattle.judge.specs.Flow.{refusedWith}
-use Rattle.delega.proofs.Samples.{oneDelega, itsDelega}
+use Rattle.delega.proofs.Samples.{oneDelega, printedDelega}
 use Rattle.report.specs.Printed.{widthWithin, widthOf, decimal, fieldText, pairText, sectionText, sectionsFrom, sectionsText, acceptedText, refusedText, answeredText, judgementText, delegaText}
 
 -- "05 10000 2500", and zeros in the four other lines
@@ -27,7 +27,7 @@ whole-text = refl
 
 -- `DELEGA 1 7500 2 4 1`: number, balance, lines, set, size; and the same five lines
 pub delega-text :
-    delegaText 1 itsDelega
+    delegaText 1 printedDelega
     ≡ 68 ∷ 69 ∷ 76 ∷ 69 ∷ 71 ∷ 65 ∷ 32 ∷ 49 ∷ 32 ∷ 55 ∷ 53 ∷ 48 ∷ 48 ∷ 32 ∷ 50 ∷ 32 ∷ 52 ∷ 32 ∷ 49 ∷ 10 ∷ regioniText
 unfolding delegaText answeredText sectionsText sectionsFrom sectionText pairText fieldText decimal widthOf widthWithin digitsOf sectionAt
 delega-text = refl

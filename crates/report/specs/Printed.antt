@@ -92,7 +92,7 @@ lineText r = lineWord ++ fieldText r lineEnd
 unfoldable pub judgementText : Judgement → List ℕ
 judgementText j = judgedFirst refusedText (j .verdict) (acceptedText (j .summary))
 
--- the text of the answer for the delega with a number
+-- "Every call on a flow judges it first and gives that refusal if there is one": the text of the answer for the delega with a number
 unfoldable pub delegaText : ℕ → DelegaAnswer → List ℕ
 delegaText n a = judgedFirst refusedText (a .verdict) (answeredText n a)
 

@@ -74,17 +74,17 @@ lines-on n p Tail h = omega arith
 lines-on n p Unknown h = omega arith
 
 -- the counts of deleghe and of records that are no lines grow by one at most
-counts-on : (n d l : ℕ) (k : Kind) → d ≤ n → l ≤ n → (nextDeleghe d k ≤ n + 1) × (nextOthers l k ≤ n + 1)
-counts-on n d l Head h g = (omega arith, omega arith)
-counts-on n d l Taxpayer h g = (omega arith, omega arith)
-counts-on n d l Domicile h g = (omega arith, omega arith)
-counts-on n d l (Line s) h g = (omega arith, omega arith)
-counts-on n d l (Balance s) h g = (omega arith, omega arith)
-counts-on n d l Payment h g = (omega arith, omega arith)
-counts-on n d l Receipt h g = (omega arith, omega arith)
-counts-on n d l Addressee h g = (omega arith, omega arith)
-counts-on n d l Tail h g = (omega arith, omega arith)
-counts-on n d l Unknown h g = (omega arith, omega arith)
+counts-on : (n d o : ℕ) (k : Kind) → d ≤ n → o ≤ n → (nextDeleghe d k ≤ n + 1) × (nextOthers o k ≤ n + 1)
+counts-on n d o Head h g = (omega arith, omega arith)
+counts-on n d o Taxpayer h g = (omega arith, omega arith)
+counts-on n d o Domicile h g = (omega arith, omega arith)
+counts-on n d o (Line s) h g = (omega arith, omega arith)
+counts-on n d o (Balance s) h g = (omega arith, omega arith)
+counts-on n d o Payment h g = (omega arith, omega arith)
+counts-on n d o Receipt h g = (omega arith, omega arith)
+counts-on n d o Addressee h g = (omega arith, omega arith)
+counts-on n d o Tail h g = (omega arith, omega arith)
+counts-on n d o Unknown h g = (omega arith, omega arith)
 
 pub deleghe-on : (n d : ℕ) (k : Kind) → d ≤ n → nextDeleghe d k ≤ n + 1
 deleghe-on n d k h = counts-on n d 0 k h (omega arith) .0

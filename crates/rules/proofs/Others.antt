@@ -8,14 +8,14 @@ use Rattle.layout.specs.Kinds.{ofLine}
 use Rattle.rules.specs.Step.{nextOthers}
 
 -- a line counts, and no other record does: one record is one line or one more of the others
-pub line-or-other : (n : ℕ) (k : Kind) → nextOthers n k + ofLine 0 (λ s. 1) k ≡ n + 1
-line-or-other n Head = omega arith
-line-or-other n Taxpayer = omega arith
-line-or-other n Domicile = omega arith
-line-or-other n (Line s) = omega arith
-line-or-other n (Balance s) = omega arith
-line-or-other n Payment = omega arith
-line-or-other n Receipt = omega arith
-line-or-other n Addressee = omega arith
-line-or-other n Tail = omega arith
-line-or-other n Unknown = omega arith
+pub counted-once : (n : ℕ) (k : Kind) → nextOthers n k + ofLine 0 (λ s. 1) k ≡ n + 1
+counted-once n Head = omega arith
+counted-once n Taxpayer = omega arith
+counted-once n Domicile = omega arith
+counted-once n (Line s) = omega arith
+counted-once n (Balance s) = omega arith
+counted-once n Payment = omega arith
+counted-once n Receipt = omega arith
+counted-once n Addressee = omega arith
+counted-once n Tail = omega arith
+counted-once n Unknown = omega arith

