@@ -8,10 +8,10 @@ use borrow.Author.Tests.{ne-eqb, leb-true, leb-false, lt-ltb, le-ltb}
 use Rattle.text.specs.Among.{among, fromTo}
 use Rattle.text.specs.Numbers.{digit}
 use Rattle.text.proofs.Bytes.{between}
-use Rattle.text.proofs.Tests.{alike, alike-same}
+use Rattle.text.proofs.Tests.{alike, alike-same, each-below}
 use Rattle.taxcode.specs.Places.{spelled, byPlace}
 use Rattle.taxcode.specs.Persons.{capital, figure, holdsFigure, placeRight, evenValue, oddValues, oddValue, valueAt}
-use Rattle.taxcode.proofs.Computed.{each-below, Tells, tells}
+use Rattle.taxcode.proofs.Computed.{Tells, tells}
 
 -- the places that hold digits are those from 7 to 15 but 9 and 12
 abbrev figurePlace : ℕ → Bool

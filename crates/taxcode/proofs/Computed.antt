@@ -1,24 +1,10 @@
--- A test that is computed for every number below a bound holds of each; and so it is shown of the characters that may stand in a place that they count differently.
-use Prim.Native.Nat.{ℕ, zero, suc, _<_}
-use mathlib.Core.Path.{_≡_, refl}
-use mathlib.Core.Bool.{Bool, true, false, cond, false≢true}
-use native.Mathlib.Omega.{arith}
+-- By a test that is computed for every number below a bound it is shown of the characters that may stand in a place that they count differently.
+use Prim.Native.Nat.{ℕ, _<_}
+use mathlib.Core.Path.{_≡_}
+use mathlib.Core.Bool.{Bool, true, false, cond}
 use lib.Dec.{eqb, ltb}
-use borrow.Author.Tests.{eqb-true, eqb-false, ltb-true, eq-eqb}
-use Rattle.text.proofs.Tests.{both-true}
-
-abbrev pub allBelow : (ℕ → Bool) → ℕ → Bool
-allBelow f zero = true
-allBelow f (suc n) = cond (f n) (allBelow f n) false
-
-pub each-below : (f : ℕ → Bool) (n : ℕ) → allBelow f n ≡ true → (b : ℕ) → b < n → f b ≡ true
-each-below f zero e b h = absurd (omega arith)
-each-below f (suc n) e b h = go (f n) refl e (eqb b n) refl (λ r l. each-below f n r b l)
-  where
-    go : (t : Bool) → f n ≡ t → cond t (allBelow f n) false ≡ true → (s : Bool) → eqb b n ≡ s → (allBelow f n ≡ true → b < n → f b ≡ true) → f b ≡ true
-    go false p e s q below = absurd (false≢true e)
-    go true p e true q below = rw (eqb-true b n q) p
-    go true p e false q below = let d = eqb-false b n q in below e (omega arith)
+use borrow.Author.Tests.{eqb-true, ltb-true, eq-eqb}
+use Rattle.text.proofs.Tests.{both-true, allBelow, each-below}
 
 -- the characters that pass r count less than m, each another number
 pub record Tells (r : ℕ → Bool) (v : ℕ → ℕ) (m : ℕ) : Type 0 where

@@ -6,12 +6,11 @@ use mathlib.Core.Bool.{Bool, true, false, cond}
 use mathlib.Core.List.{List, [], _∷_}
 use lib.ListN.{set}
 use Rattle.text.specs.Among.{among}
-use Rattle.text.proofs.Tests.{alike, every}
+use Rattle.text.proofs.Tests.{alike, every, allBelow}
 use Rattle.taxcode.specs.Places.{spelled, everyFrom, sumFrom, byPlace}
 use Rattle.taxcode.specs.Persons.{capital, figure, holdsFigure, placeRight, evenValue, oddValues, oddValue, valueAt, lastLetter, personRight}
 use Rattle.taxcode.specs.Firms.{doubled, countAt, digitOrSpace, firmRight}
 use Rattle.taxcode.specs.TaxCodes.{codeRight}
-use Rattle.taxcode.proofs.Computed.{allBelow}
 
 -- sixteen characters are a code, or they are none; of RSSMRA85T10A562S a place may hold these characters and no others, and each makes a code with its last letter; of 03417520545 a place may hold each digit, with its last digit
 pub data Fact : Type 0 where

@@ -1,7 +1,11 @@
--- What tests say: one that does not hold, two that are joined, two that agree, one that chooses, one over a list.
+-- What tests say: one that does not hold, two that are joined, two that agree, one that chooses, one over a list, one over all numbers below a bound.
+use Prim.Native.Nat.{ℕ, zero, suc, _<_}
 use mathlib.Core.Path.{_≡_, refl}
 use mathlib.Core.Bool.{Bool, true, false, cond, false≢true}
 use mathlib.Core.List.{List, [], _∷_}
+use native.Mathlib.Omega.{arith}
+use borrow.Author.Tests.{eqb-true, eqb-false}
+use lib.Dec.{eqb}
 
 -- A test that does not hold is false.
 pub untrue : (b : Bool) → (b ≡ true → ⊥) → b ≡ false
@@ -33,3 +37,17 @@ either-way P false x y f g = g
 abbrev pub every : {A : Type 0} → (A → Bool) → List A → Bool
 every p [] = true
 every p (x ∷ xs) = cond (p x) (every p xs) false
+
+-- Every number below a bound passes a test, and so each of them does.
+abbrev pub allBelow : (ℕ → Bool) → ℕ → Bool
+allBelow f zero = true
+allBelow f (suc n) = cond (f n) (allBelow f n) false
+
+pub each-below : (f : ℕ → Bool) (n : ℕ) → allBelow f n ≡ true → (b : ℕ) → b < n → f b ≡ true
+each-below f zero e b h = absurd (omega arith)
+each-below f (suc n) e b h = go (f n) refl e (eqb b n) refl (λ r l. each-below f n r b l)
+  where
+    go : (t : Bool) → f n ≡ t → cond t (allBelow f n) false ≡ true → (s : Bool) → eqb b n ≡ s → (allBelow f n ≡ true → b < n → f b ≡ true) → f b ≡ true
+    go false p e s q below = absurd (false≢true e)
+    go true p e true q below = rw (eqb-true b n q) p
+    go true p e false q below = let d = eqb-false b n q in below e (omega arith)
