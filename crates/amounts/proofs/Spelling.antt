@@ -1,10 +1,10 @@
--- A turn of the loops over names.
+-- A turn of the loops over names, and what it is for bytes to be the same.
 use Prim.Native.Nat.{ℕ, zero, suc, _+_, _<_, _≤_}
-use mathlib.Core.Path.{_≡_, refl, sym, ap, _∙_}
-use mathlib.Core.Bool.{Bool, true, false, cond}
+use mathlib.Core.Path.{_≡_, refl, sym, ap, ap₂, _∙_}
+use mathlib.Core.Bool.{Bool, true, false, cond, false≢true}
 use mathlib.Core.List.{List, [], _∷_}
 use native.Mathlib.Omega.{arith}
-use borrow.Author.Tests.{eq-eqb, ne-eqb}
+use borrow.Author.Tests.{eq-eqb, ne-eqb, eqb-true}
 use lib.ListN.{length, drop, getD, drop-of-length-le}
 use lib.Dec.{eqb}
 use Rattle.text.proofs.Bytes.{drop-one}
@@ -50,3 +50,21 @@ same-lengths (a ∷ l) (b ∷ bs) n = go (eqb a b) (same-lengths l bs (λ e. n (
     go : (t : Bool) → sameBytes l bs ≡ false → cond t (sameBytes l bs) false ≡ false
     go true e = e
     go false e = refl
+
+-- Bytes that are found the same are equal.
+pub same-bytes : (l k : List ℕ) → sameBytes l k ≡ true → l ≡ k
+unfolding sameBytes
+same-bytes [] [] e = refl
+same-bytes [] (b ∷ bs) e = absurd (false≢true e)
+same-bytes (a ∷ l) [] e = absurd (false≢true e)
+same-bytes (a ∷ l) (b ∷ bs) e = go (eqb a b) refl e (same-bytes l bs)
+  where
+    go : (t : Bool) → eqb a b ≡ t → cond t (sameBytes l bs) false ≡ true → (sameBytes l bs ≡ true → l ≡ bs) → a ∷ l ≡ b ∷ bs
+    go true p q ih = ap₂ _∷_ (eqb-true a b p) (ih q)
+    go false p q ih = absurd (false≢true q)
+
+-- Bytes are the same as themselves.
+pub same-itself : (l : List ℕ) → sameBytes l l ≡ true
+unfolding sameBytes
+same-itself [] = refl
+same-itself (b ∷ l) = rw (eq-eqb b b refl) (same-itself l)

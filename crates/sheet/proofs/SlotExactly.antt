@@ -5,7 +5,7 @@ use mathlib.Core.Bool.{Bool, true, false, cond, false≢true}
 use mathlib.Core.List.{List, [], _∷_}
 use mathlib.Core.Logic.{_↔_}
 use native.Mathlib.Omega.{arith}
-use borrow.Author.Tests.{eqb-true, eq-eqb}
+use borrow.Author.Tests.{eqb-true}
 use lib.Dec.{eqb}
 use lib.ListN.{length, take, drop, getD}
 use lib.Seq.{drop-cons}
@@ -23,15 +23,10 @@ use Rattle.layout.specs.Sections.{sections, noSection, sectionAt}
 use Rattle.layout.specs.Kinds.{same, typeOf, sectionKindFrom, paymentKind, kindOf, typeIn, subtypeIn, kindIn}
 use Rattle.amounts.specs.declared.Outcome.the-variants.{Pass}
 use Rattle.amounts.specs.Names.{sameBytes}
+use Rattle.amounts.proofs.Spelling.{same-itself}
 use Rattle.sheet.specs.Slots.{typeText, subtypeText, slotFault}
 use Rattle.sheet.specs.Contents.{Slot}
 use Rattle.sheet.proofs.SlotPassed.{slot-kind}
-
--- Bytes are the same as themselves.
-pub same-itself : (l : List ℕ) → sameBytes l l ≡ true
-unfolding sameBytes
-same-itself [] = refl
-same-itself (b ∷ l) = rw (eq-eqb b b refl) (same-itself l)
 
 -- The characters of a type.
 abbrev pub Chars : RecordType → ℕ → ℕ → Type 0

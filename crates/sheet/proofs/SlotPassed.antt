@@ -4,7 +4,6 @@ use mathlib.Core.Path.{_≡_, refl, sym, ap, ap₂, _∙_}
 use mathlib.Core.Bool.{Bool, true, false, cond, false≢true}
 use mathlib.Core.List.{List, [], _∷_}
 use native.Mathlib.Omega.{arith}
-use borrow.Author.Tests.{eqb-true}
 use lib.Dec.{eqb, lit<}
 use lib.ListN.{length, take, drop, getD}
 use lib.Seq.{getD-take, getD-drop}
@@ -16,20 +15,9 @@ use Rattle.layout.specs.Sections.{sectionAt}
 use Rattle.layout.specs.Kinds.{same, typeOf, sectionKindFrom, paymentKind, kindOf, typeIn, kindIn}
 use Rattle.amounts.specs.declared.Outcome.the-variants.{Pass, Fault}
 use Rattle.amounts.specs.Names.{sameBytes}
+use Rattle.amounts.proofs.Spelling.{same-bytes}
 use Rattle.sheet.specs.Slots.{typeText, subtypeText, slotFault}
 use Rattle.sheet.specs.Contents.{Slot, head, taxpayer, domicile, line, balance, payment, tail}
-
--- Bytes that are found the same are equal.
-pub same-bytes : (l k : List ℕ) → sameBytes l k ≡ true → l ≡ k
-unfolding sameBytes
-same-bytes [] [] e = refl
-same-bytes [] (b ∷ bs) e = absurd (false≢true e)
-same-bytes (a ∷ l) [] e = absurd (false≢true e)
-same-bytes (a ∷ l) (b ∷ bs) e = go (eqb a b) refl e (same-bytes l bs)
-  where
-    go : (t : Bool) → eqb a b ≡ t → cond t (sameBytes l bs) false ≡ true → (sameBytes l bs ≡ true → l ≡ bs) → a ∷ l ≡ b ∷ bs
-    go true p q ih = ap₂ _∷_ (eqb-true a b p) (ih q)
-    go false p q ih = absurd (false≢true q)
 
 -- Where the check on the slot passes, type and subtype are the slot's.
 slot-texts : (k : Kind) (r : List ℕ) → slotFault k r ≡ Pass → (take 2 (drop 1 r) ≡ typeText k) × (take (length (subtypeText k)) (drop 10 r) ≡ subtypeText k)

@@ -13,8 +13,9 @@ use Rattle.amounts.specs.declared.Outcome.the-variants.{Pass, Fault}
 use Rattle.amounts.specs.Names.{sameBytes}
 use Rattle.sheet.specs.Slots.{typeText, subtypeText, slotFault}
 use Rattle.sheet.specs.Contents.{Slot, head, taxpayer, domicile, line, balance, payment, tail, slotType, SlotSays, OfItsKind, OtherType, OtherSubtype}
-use Rattle.sheet.proofs.SlotPassed.{same-bytes, type-of}
-use Rattle.sheet.proofs.SlotExactly.{same-itself, Chars, type-chars, two, slot-exactly}
+use Rattle.amounts.proofs.Spelling.{same-bytes, same-itself}
+use Rattle.sheet.proofs.SlotPassed.{type-of}
+use Rattle.sheet.proofs.SlotExactly.{Chars, type-chars, two, slot-exactly}
 
 -- The characters of a slot's type name it.
 slot-typed : {k : Kind} (s : Slot k) (r : List ℕ) → take 2 (drop 1 r) ≡ typeText k → typeIn r ≡ slotType s

@@ -50,15 +50,15 @@ unfolding wordBy
 word-at-most k m [] none = omega arith
 word-at-most k m (b ∷ bs) (also h p) = omega (arith, mul-le-mul-right (2 ^ k) (word-at-most k m bs p))
 
--- Two lists of one length, with every top bit clear, that make one word are equal.
-pub word-inj : (xs ys : List ℕ) → AtMost 127 xs → AtMost 127 ys → length xs ≡ length ys → word xs ≡ word ys → xs ≡ ys
+-- Two lists of bytes, of one length, that make one word are equal.
+pub word-inj : {m : ℕ} → m < 256 → (xs ys : List ℕ) → AtMost m xs → AtMost m ys → length xs ≡ length ys → word xs ≡ word ys → xs ≡ ys
 unfolding wordBy
-word-inj [] [] p q e f = refl
-word-inj [] (y ∷ ys) p q e f = absurd (omega arith)
-word-inj (x ∷ xs) [] p q e f = absurd (omega arith)
-word-inj (x ∷ xs) (y ∷ ys) (also h p) (also i q) e f =
+word-inj s [] [] p q e f = refl
+word-inj s [] (y ∷ ys) p q e f = absurd (omega arith)
+word-inj s (x ∷ xs) [] p q e f = absurd (omega arith)
+word-inj s (x ∷ xs) (y ∷ ys) (also h p) (also i q) e f =
     let a : x ≡ y = omega arith in
-    let b : xs ≡ ys = word-inj xs ys p q (omega arith) (omega arith) in
+    let b : xs ≡ ys = word-inj s xs ys p q (omega arith) (omega arith) in
     cc
 
 -- The first byte of a word, and the word of the bytes behind it.

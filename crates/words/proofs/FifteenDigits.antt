@@ -106,7 +106,7 @@ seven-eight s x b high low n e f =
 -- Eight zeros are known by their word.
 zeros-spelt : (w : ℕ) (s : Spelt w) → w ≡ 0x3030_3030_3030_3030 → s .chars ≡ digitsOf 8 0
 unfolding wordBy digitsOf
-zeros-spelt w s z = word-inj (s .chars) (digitsOf 8 0) (s .fine) (allowed-at-most (digitsOf 8 0) (allowed-digits 8 0)) (s .eight) (sym (s .whole) ∙ z)
+zeros-spelt w s z = word-inj (omega arith) (s .chars) (digitsOf 8 0) (s .fine) (allowed-at-most (digitsOf 8 0) (allowed-digits 8 0)) (s .eight) (sym (s .whole) ∙ z)
 
 -- Eight zeros say 0.
 pub zeros-said : (w : ℕ) (s : Spelt w) → w ≡ 0x3030_3030_3030_3030 → Said.Amount 0 ≡ fifteenOf (numberOf (s .chars))

@@ -29,7 +29,7 @@ eight-seven l i h = rw (drop-one l i (omega arith))
 pub same-number : (l : List ℕ) (i d : ℕ) → firstBad l ≡ Allowed → i + 8 ≤ length l → d < 1000 → word (take 8 (drop i l)) ≡ word (digitsOf 8 d) → numberOf (take 7 (drop (i + 1) l)) ≡ Number d
 same-number l i d ok h k e =
     let n : length (take 8 (drop i l)) ≡ 8 = part-length 8 i l h in
-    let s : take 8 (drop i l) ≡ digitsOf 8 d = word-inj (take 8 (drop i l)) (digitsOf 8 d) (at-most-part 127 8 i l (allowed-at-most l ok)) (allowed-at-most (digitsOf 8 d) (allowed-digits 8 d)) (n ∙ sym (length-digits 8 d)) e in
+    let s : take 8 (drop i l) ≡ digitsOf 8 d = word-inj (omega arith) (take 8 (drop i l)) (digitsOf 8 d) (at-most-part 127 8 i l (allowed-at-most l ok)) (allowed-at-most (digitsOf 8 d) (allowed-digits 8 d)) (n ∙ sym (length-digits 8 d)) e in
     let t : getD l i 0 ∷ take 7 (drop (i + 1) l) ≡ 48 ∷ digitsOf 7 d = sym (eight-seven l i h) ∙ (s ∙ digits-more 7 d (omega arith)) in
     let u : take 7 (drop (i + 1) l) ≡ digitsOf 7 d = cc in
     rw u (number-digits 7 d (omega arith))

@@ -31,7 +31,7 @@ use Rattle.sheet.specs.Sheet.{entry}
 use Rattle.sheet.specs.Filled.{withNumber, isTail, withName, filled}
 use Rattle.sheet.specs.Contents as In
 use Rattle.sheet.specs.Contents.{Slot}
-use Rattle.sheet.proofs.SlotPassed.{same-bytes}
+use Rattle.amounts.proofs.Spelling.{same-bytes}
 use Rattle.sheet.proofs.FilledRecords.{slot-laid}
 use Rattle.rebalance.specs.Places.{balanceColumns}
 use Rattle.write.specs.Effect.{filledColumns}

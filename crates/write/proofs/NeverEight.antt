@@ -31,7 +31,7 @@ use Rattle.sheet.specs.Sheet.{Entry, entry}
 use Rattle.sheet.specs.Filled.{withNumber, isTail, withName, filled, filledAll}
 use Rattle.sheet.specs.Contents.{tail, All, Entered, Numbering}
 use Rattle.sheet.proofs.SlotPassed.{slot-kind}
-use Rattle.sheet.proofs.SlotExactly.{same-itself}
+use Rattle.amounts.proofs.Spelling.{same-itself}
 use Rattle.sheet.proofs.FilledRecords.{slot-storing, slot-laid, length-number, length-name}
 use Rattle.write.specs.declared.Writing.the-variants.{Refused}
 use Rattle.write.specs.Writing.{nameIn, entryFault, writingOf}
