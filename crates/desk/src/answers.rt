@@ -46,3 +46,12 @@ pub fn print_record(k: usize, part: &[u8]) {
     io::write_all(STDOUT_FILENO, part);
     io::write_all(STDOUT_FILENO, b"\n");
 }
+
+// How many records a judgement by portions has examined, and in how many calls.
+pub fn print_examined(records: usize, calls: usize) {
+    io::write_all(STDOUT_FILENO, b"EXAMINED ");
+    io::print_decimal(STDOUT_FILENO, records as u64);
+    io::write_all(STDOUT_FILENO, b" ");
+    io::print_decimal(STDOUT_FILENO, calls as u64);
+    io::write_all(STDOUT_FILENO, b"\n");
+}

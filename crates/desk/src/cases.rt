@@ -41,8 +41,8 @@ fn print_name(head: &[u8]) {
     io::write_all(STDOUT_FILENO, b"\n");
 }
 
-// A number of a header; zero where its digits are none.
-fn number_of(digits: &[u8]) -> u64
+// A number of a run case; zero where its digits are none.
+pub fn number_of(digits: &[u8]) -> u64
     ensures { λ r. ⌜ r ≡ orZero (decimalOf (now (digits .entry))) ⌝ }
 {
     match args::decimal(digits) {

@@ -2,7 +2,9 @@
 use Prim.Native.Nat.{ℕ}
 use mathlib.Core.Path.{_≡_, sym, _∙_}
 use mathlib.Core.List.{List}
-use Rattle.f24.specs.Linked.{judgeCode, judgeRoom, delegaCode, delegaRoom, findCode, findRoom, correctCode, correctFlow, correctRoom, writeCode, writeRoom, writeAnswer}
+use Rattle.portion.specs.Portion.{startProgress}
+use Rattle.handed.specs.Room.{progressNumbers}
+use Rattle.f24.specs.Linked.{codeOr, roomOr, judgeCode, judgeRoom, delegaCode, delegaRoom, findCode, findRoom, correctCode, correctFlow, correctRoom, writeCode, writeRoom, writeAnswer, portionCode, portionState, portionRoom}
 
 -- `f24_judge`: the number returned, and the room
 pub one-judge : (flow room : List ℕ) (a b : ℕ) (x y : List ℕ) →
@@ -39,3 +41,17 @@ module _ (sheet room answer : List ℕ) where
 
   pub one-write : (a b : ℕ) (f g x y : List ℕ) → Writes a f x → Writes b g y → (a ≡ b) × (f ≡ g) × (x ≡ y)
   one-write a b f g x y p q = (p .0 ∙ sym (q .0), p .1 ∙ sym (q .1), p .2 ∙ sym (q .2))
+
+-- `f24_start`: the number returned, and the state
+pub one-start : (state : List ℕ) (a b : ℕ) (x y : List ℕ) →
+    (a ≡ codeOr 53 state 0) × (x ≡ roomOr 53 state (progressNumbers startProgress)) → (b ≡ codeOr 53 state 0) × (y ≡ roomOr 53 state (progressNumbers startProgress)) → (a ≡ b) × (x ≡ y)
+one-start state a b x y p q = (p .0 ∙ sym (q .0), p .1 ∙ sym (q .1))
+
+-- `f24_judge_portion`: the number returned, the state, and the answer
+module _ (flow : List ℕ) (portion : ℕ) (state answer : List ℕ) where
+  -- what its contract allows
+  abbrev pub Judges : ℕ → List ℕ → List ℕ → Type 0
+  Judges code f x = (code ≡ portionCode flow portion state answer) × (f ≡ portionState flow portion state answer) × (x ≡ portionRoom flow portion state answer)
+
+  pub one-judge-portion : (a b : ℕ) (f g x y : List ℕ) → Judges a f x → Judges b g y → (a ≡ b) × (f ≡ g) × (x ≡ y)
+  one-judge-portion a b f g x y p q = (p .0 ∙ sym (q .0), p .1 ∙ sym (q .1), p .2 ∙ sym (q .2))

@@ -2,7 +2,8 @@
 use mathlib.Core.Path.{_≡_, refl}
 use mathlib.Core.List.{[], _∷_}
 use Rattle.delega.proofs.Samples.{oneDelega, printedDelega}
-use Rattle.f24.specs.Linked.{sumsNumbers, summaryNumbers, delegaNumbers}
+use Rattle.state.specs.Numbers.{sumsNumbers}
+use Rattle.f24.specs.Linked.{summaryNumbers, delegaNumbers}
 
 -- deleghe, records, sum, lines; then the five sections, of which Regioni is the third
 pub summary-places : summaryNumbers (oneDelega .summary) ≡ 1 ∷ 8 ∷ 7500 ∷ 2 ∷ 0 ∷ 0 ∷ 0 ∷ 0 ∷ 10000 ∷ 2500 ∷ 0 ∷ 0 ∷ 0 ∷ 0 ∷ []

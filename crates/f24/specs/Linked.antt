@@ -4,10 +4,15 @@ use mathlib.Core.Bool.{cond}
 use mathlib.Core.List.{List, [], _∷_, _++_}
 use lib.Dec.{eqb, ltb}
 use lib.ListN.{length, drop}
-use Rattle.amounts.specs.declared.Sums.{Sums}
+use Rattle.state.specs.Numbers.{overlay, sumsNumbers}
 use Rattle.judge.specs.declared.Summary.{Summary}
 use Rattle.judge.specs.Refusal.{Refusal, refusalOf}
 use Rattle.judge.specs.Flow.{judged}
+use Rattle.portion.specs.declared.Course.{Course}
+use Rattle.portion.specs.declared.Course.the-variants as Portions
+use Rattle.portion.specs.declared.Portion.{Portion}
+use Rattle.portion.specs.Portion.{portioned}
+use Rattle.handed.specs.Room.{progressNumbers, progressOf}
 use Rattle.delega.specs.declared.DelegaAnswer.{DelegaAnswer}
 use Rattle.delega.specs.OneDelega.{delegaOf}
 use Rattle.find.specs.declared.Found.{Found}
@@ -18,10 +23,6 @@ use Rattle.write.specs.declared.Writing.{Writing}
 use Rattle.write.specs.declared.Writing.the-variants as Flow
 use Rattle.write.specs.Writing.{refusalWritten, writingOf, roomAfter}
 
--- The first numbers of a room are replaced by those of a list, and the rest stays as it came.
-unfoldable pub overlay : List ℕ → List ℕ → List ℕ
-overlay xs room = xs ++ drop (length xs) room
-
 -- A room of fewer than n numbers returns 100, and any other a code.
 unfoldable pub codeOr : ℕ → List ℕ → ℕ → ℕ
 codeOr n room code = cond (ltb (length room) n) 100 code
@@ -29,11 +30,6 @@ codeOr n room code = cond (ltb (length room) n) 100 code
 -- Such a room stays as it came, and any other is written to.
 unfoldable pub roomOr : ℕ → List ℕ → List ℕ → List ℕ
 roomOr n room xs = cond (ltb (length room) n) room (overlay xs room)
-
--- The debit and the credit of each section stand one after the other, in the order of the sections.
-unfoldable pub sumsNumbers : List Sums → List ℕ
-sumsNumbers [] = []
-sumsNumbers (s ∷ ss) = s .debit ∷ s .credit ∷ sumsNumbers ss
 
 -- A summary is written as deleghe, records, total and lines, and then the sums of the sections.
 unfoldable pub summaryNumbers : Summary → List ℕ
@@ -108,3 +104,46 @@ writeAnswer sheet room answer = roomOr 2 answer (answerNumbers (refusalWritten (
 -- It leaves the room as it came where the answer is too short, and else writes the flow into it.
 unfoldable pub writeRoom : List ℕ → List ℕ → List ℕ → List ℕ
 writeRoom sheet room answer = cond (ltb (length answer) 2) room (roomAfter sheet room)
+
+-- A judgement that has not ended returns 101, and a foreign state 102.
+abbrev pub courseCode : Course → ℕ
+courseCode Portions.Going = 101
+courseCode Portions.Accepted = 0
+courseCode (Portions.Refused n r p) = n
+courseCode Portions.Foreign = 102
+
+-- A portion writes the number of records examined so far, and behind it the summary, or the record and the position of the refusal.
+abbrev pub numbersBy : Course → Portion → List ℕ
+numbersBy Portions.Going a = a .examined ∷ []
+numbersBy Portions.Accepted a = a .examined ∷ summaryNumbers (a .summary)
+numbersBy (Portions.Refused n r p) a = a .examined ∷ r ∷ p ∷ []
+numbersBy Portions.Foreign a = a .examined ∷ []
+
+abbrev pub portionNumbers : Portion → List ℕ
+portionNumbers a = numbersBy (a .answer) a
+
+-- The state is replaced by the one that is handed back; a foreign one stays as it came.
+abbrev pub stateBy : Course → Portion → List ℕ → List ℕ
+stateBy Portions.Going a state = overlay (progressNumbers (a .next)) state
+stateBy Portions.Accepted a state = overlay (progressNumbers (a .next)) state
+stateBy (Portions.Refused n r p) a state = overlay (progressNumbers (a .next)) state
+stateBy Portions.Foreign a state = state
+
+abbrev pub handedBack : Portion → List ℕ → List ℕ
+handedBack a state = stateBy (a .answer) a state
+
+-- What a portion of at most p records answers, from the state in a room.
+abbrev pub portionOf : List ℕ → ℕ → List ℕ → Portion
+portionOf f p state = portioned f p (progressOf state)
+
+-- `f24_judge_portion` returns 100 for a state of fewer than 53 numbers or an answer of fewer than 15, and else what the portion says.
+unfoldable pub portionCode : List ℕ → ℕ → List ℕ → List ℕ → ℕ
+portionCode f p state answer = codeOr 53 state (codeOr 15 answer (courseCode (portionOf f p state .answer)))
+
+-- It leaves the state as it came where either is too short, and else hands it back.
+unfoldable pub portionState : List ℕ → ℕ → List ℕ → List ℕ → List ℕ
+portionState f p state answer = cond (ltb (length state) 53) state (cond (ltb (length answer) 15) state (handedBack (portionOf f p state) state))
+
+-- It leaves the answer as it came where either is too short, and else writes the portion's numbers.
+unfoldable pub portionRoom : List ℕ → ℕ → List ℕ → List ℕ → List ℕ
+portionRoom f p state answer = cond (ltb (length state) 53) answer (roomOr 15 answer (portionNumbers (portionOf f p state)))

@@ -1,21 +1,33 @@
-// The linkable library: a flow judged, one delega, one line, a correction, and a flow written from a sheet, with the answer in a room of numbers that the caller
-// lends.
-// Each function returns 0, the number of a refusal, or 100 where the room for the answer is too short; the numbers behind those it writes stay as they came.
+// The linkable library: a flow judged, at once or by portions, one delega, one line, a correction, and a flow written from a sheet, with the answer in a room of
+// numbers that the caller lends.
+// Each function returns 0, the number of a refusal, or 100 where a room is too short; the judgement by portions also 101 where it has not ended and 102 where it is
+// given a foreign state. The numbers behind those that a function writes stay as they came.
 ghost use mathlib.Core.Path.{_≡_};
 ghost use Prim.Native.Nat.{_≤_};
+ghost use mathlib.Core.List.{_∷_};
 ghost use lib.ListN.{length};
-ghost use Rattle.f24.specs.Linked.{overlay, summaryNumbers, delegaNumbers, refusalNumbers};
+ghost use Rattle.state.specs.Numbers.{overlay};
+ghost use Rattle.portion.specs.Portion.{startProgress};
+ghost use Rattle.handed.specs.Room.{progressNumbers};
+ghost use Rattle.f24.specs.Linked.{codeOr, roomOr, summaryNumbers, delegaNumbers, refusalNumbers};
 ghost use Rattle.f24.specs.Linked.{judgeCode, judgeRoom, delegaCode, delegaRoom, findCode, findRoom, correctCode, correctRoom, correctFlow};
 ghost use Rattle.f24.specs.Linked.{writeCode, writeRoom, writeAnswer};
+ghost use Rattle.f24.specs.Linked.{courseCode, portionNumbers, handedBack, portionCode, portionState, portionRoom};
 use correct::Correction;
 use delega::DelegaAnswer;
 use find::Found;
 use judge::Summary;
 use judge::Verdict;
+use portion::Course;
+use portion::Portion;
 use write::Writing;
 
-// What is returned where the room for the answer is too short.
+// What is returned where a room is too short, where a judgement has not ended, and for a state that no judgement of the flow can have handed back.
 const NO_ROOM: u64 = 100;
+
+const NOT_ENDED: u64 = 101;
+
+const FOREIGN: u64 = 102;
 
 // How many numbers each answer needs room for.
 const JUDGE_ROOM: usize = 14;
@@ -28,17 +40,10 @@ const CORRECT_ROOM: usize = 2;
 
 const WRITE_ROOM: usize = 2;
 
-// Writes numbers at the start of the room.
-fn put(room: &mut [u64], numbers: &[u64])
-    requires { ⌜ length (now numbers) ≤ length (now room) ⌝ }
-    ensures { λ _. ⌜ now (room .exit) ≡ overlay (now (numbers .entry)) (now (room .entry)) ⌝ }
-{
-    let mut i: usize = 0;
-    while i < numbers.len() {
-        room[i] = numbers[i];
-        i += 1;
-    }
-}
+const PORTION_ROOM: usize = 15;
+
+// How many numbers the state between two calls has.
+const STATE_ROOM: usize = 53;
 
 // Writes the record and the position of a refusal.
 fn put_refusal(room: &mut [u64], at: usize, position: usize)
@@ -46,7 +51,7 @@ fn put_refusal(room: &mut [u64], at: usize, position: usize)
     ensures { λ _. ⌜ now (room .exit) ≡ overlay (refusalNumbers at position) (now (room .entry)) ⌝ }
 {
     let numbers = [at as u64, position as u64];
-    put(&mut *room, &numbers);
+    state::put(&mut *room, &numbers);
 }
 
 // The numbers of a summary, as they are written.
@@ -111,7 +116,7 @@ pub extern "C" fn f24_judge(flow: &[u8], answer: &mut [u64]) -> u64
         return number;
     }
     let numbers = summary_numbers(judgement.summary);
-    put(&mut *answer, &numbers);
+    state::put(&mut *answer, &numbers);
     0
 }
 
@@ -131,7 +136,7 @@ pub extern "C" fn f24_delega(flow: &[u8], number: u64, answer: &mut [u64]) -> u6
         return code;
     }
     let numbers = delega_numbers(one);
-    put(&mut *answer, &numbers);
+    state::put(&mut *answer, &numbers);
     0
 }
 
@@ -153,7 +158,7 @@ pub extern "C" fn f24_find(
     match find::find(flow, delega, subtype, nth) {
         Found::At(k) => {
             let numbers = [k as u64];
-            put(&mut *answer, &numbers);
+            state::put(&mut *answer, &numbers);
             0
         }
         Found::Refused(number, at, position) => {
@@ -203,7 +208,7 @@ pub extern "C" fn f24_write(sheet: &[u8], room: &mut [u8], answer: &mut [u64]) -
     match write::write(sheet, &mut *room) {
         Writing::Written(length) => {
             let numbers = [length as u64];
-            put(&mut *answer, &numbers);
+            state::put(&mut *answer, &numbers);
             0
         }
         Writing::Refused(number, at, position) => {
@@ -211,4 +216,121 @@ pub extern "C" fn f24_write(sheet: &[u8], room: &mut [u8], answer: &mut [u64]) -
             number
         }
     }
+}
+
+// The state from which a judgement by portions starts.
+#[no_mangle]
+pub extern "C" fn f24_start(state: &mut [u64]) -> u64
+    ensures { λ r. ⌜ (r ≡ codeOr 53 (now (state .entry)) 0)
+        × (now (state .exit) ≡ roomOr 53 (now (state .entry)) (progressNumbers startProgress)) ⌝ }
+{
+    if state.len() < STATE_ROOM {
+        return NO_ROOM;
+    }
+    let numbers = handed::progress_numbers(portion::start());
+    state::put(&mut *state, &numbers);
+    0
+}
+
+// What a portion's answer returns.
+fn course_code(course: Course) -> u64
+    ensures { λ r. ⌜ r ≡ courseCode course ⌝ }
+{
+    match course {
+        Course::Going => NOT_ENDED,
+        Course::Accepted => 0,
+        Course::Refused(number, _, _) => number,
+        Course::Foreign => FOREIGN,
+    }
+}
+
+// The numbers of an accepted flow, as they are written behind the number of records examined.
+fn accepted_numbers(examined: usize, s: Summary) -> [u64; 15]
+    ensures { λ r. ⌜ r ≡ examined ∷ summaryNumbers s ⌝ }
+{
+    let n = summary_numbers(s);
+    [
+        examined as u64,
+        n[0],
+        n[1],
+        n[2],
+        n[3],
+        n[4],
+        n[5],
+        n[6],
+        n[7],
+        n[8],
+        n[9],
+        n[10],
+        n[11],
+        n[12],
+        n[13],
+    ]
+}
+
+// Writes a portion's answer.
+fn put_portion(room: &mut [u64], part: Portion)
+    requires { ⌜ 15 ≤ length (now room) ⌝ }
+    ensures { λ _. ⌜ now (room .exit) ≡ overlay (portionNumbers part) (now (room .entry)) ⌝ }
+{
+    let examined = part.examined;
+    let course = part.answer;
+    match course {
+        Course::Going => {
+            let numbers = [examined as u64];
+            state::put(&mut *room, &numbers);
+        }
+        Course::Accepted => {
+            let numbers = accepted_numbers(examined, part.summary);
+            state::put(&mut *room, &numbers);
+        }
+        Course::Refused(_, at, position) => {
+            let numbers = [examined as u64, at as u64, position as u64];
+            state::put(&mut *room, &numbers);
+        }
+        Course::Foreign => {
+            let numbers = [examined as u64];
+            state::put(&mut *room, &numbers);
+        }
+    }
+}
+
+// Writes the state after a portion; a foreign one stays as it came.
+fn hand_back(room: &mut [u64], part: Portion)
+    requires { ⌜ 53 ≤ length (now room) ⌝ }
+    ensures { λ _. ⌜ now (room .exit) ≡ handedBack part (now (room .entry)) ⌝ }
+{
+    let course = part.answer;
+    if let Course::Foreign = course {
+        return;
+    }
+    let numbers = handed::progress_numbers(part.next);
+    state::put(&mut *room, &numbers);
+}
+
+// Judges at most so many records of a flow, from the state that is lent, which is then the one after them. The answer is the number of records examined so far,
+// and behind it, where the judgement has ended, what `f24_judge` writes.
+#[no_mangle]
+pub extern "C" fn f24_judge_portion(
+    flow: &[u8],
+    portion: u64,
+    state: &mut [u64],
+    answer: &mut [u64],
+) -> u64
+    ensures { λ r. ⌜ (r ≡ portionCode (now (flow .entry)) portion (now (state .entry)) (now (answer .entry)))
+        × (now (state .exit) ≡ portionState (now (flow .entry)) portion (now (state .entry)) (now (answer .entry)))
+        × (now (answer .exit) ≡ portionRoom (now (flow .entry)) portion (now (state .entry)) (now (answer .entry))) ⌝ }
+{
+    if state.len() < STATE_ROOM {
+        return NO_ROOM;
+    }
+    if answer.len() < PORTION_ROOM {
+        return NO_ROOM;
+    }
+    let from = handed::progress_in(state);
+    let part = portion::judge_portion(flow, portion as usize, from);
+    hand_back(&mut *state, part);
+    put_portion(&mut *answer, part);
+    let course = part.answer;
+    course_code(course)
 }

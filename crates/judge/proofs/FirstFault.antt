@@ -79,13 +79,13 @@ fault-told name st (x ∷ xs) here behind {n} {p} h e = rw (h .0) (fault-told na
     counted xs = omega arith
 
 -- how a flow's length decides
-data Sized (s : List ℕ) : Type 0 where
+pub data Sized (s : List ℕ) : Type 0 where
   long : 65520 < length s → Sized s
   none : length s ≡ 0 → Sized s
   ragged : length s ≤ 65520 → (length s ≡ 0 → ⊥) → (length s % 120 ≡ 0 → ⊥) → Sized s
   whole : Whole s → Sized s
 
-sized : (s : List ℕ) → Sized s
+pub sized : (s : List ℕ) → Sized s
 sized s = go (ltb 65520 (length s)) (eqb (length s) 0) (eqb (length s % 120) 0) refl refl refl
   where
     go : (a b c : Bool) → ltb 65520 (length s) ≡ a → eqb (length s) 0 ≡ b → eqb (length s % 120) 0 ≡ c → Sized s

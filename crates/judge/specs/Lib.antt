@@ -3,3 +3,4 @@ pub mod Flow
 pub mod Plain
 pub mod Part
 pub mod Ending
+pub mod Run

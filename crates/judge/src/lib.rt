@@ -7,7 +7,9 @@ ghost use Rattle.layout.specs.Fields.{fieldsOf};
 ghost use Rattle.order.specs.Order.{standing};
 ghost use Rattle.rules.specs.Checks.{badFields};
 ghost use Rattle.judge.specs.Part.{recordAt, recordStart, LiesAt};
-ghost use Rattle.judge.specs.Flow.{refusedWith, closing, after, headNameOf, restOf, judgedFrom, judged, Ready};
+ghost use Rattle.state.specs.Numbers.{stateIn, keptAfter, Kept};
+ghost use Rattle.judge.specs.Flow.{refusedWith, closing, after, restOf, judgedFrom, judged, Ready};
+ghost use Rattle.judge.specs.Run.{ran};
 ghost use Rattle.judge.specs.Ending.{ending};
 use amounts::Outcome;
 use amounts::Sums;
@@ -143,18 +145,20 @@ fn misread(rec: &[u8], kind: Kind, k: usize) -> Judgement
     refused(8, k + 1, 4)
 }
 
-// The judgement of the records that are left, after those that led to a state. The amounts of a record are read before its number is compared, which leaves
-// the compiler less to keep at once; `misread` tells which of them is refused first.
-fn judge_from(flow: &[u8], start: State) -> Judgement
-    requires { ⌜ Ready (now flow) start ⌝ }
-    ensures { λ r. ⌜ r ≡ judgedFrom (headNameOf (now (flow .entry))) start (restOf (now (flow .entry)) (start .seen)) ⌝ }
+// The judgement of the records that are left, after those that led to the state which is kept; the state that they lead to is kept then. Where no numbers
+// are kept, it starts before the first record. The amounts of a record are read before its number is compared, which leaves the compiler less to keep at once;
+// `misread` tells which of them is refused first.
+pub fn judge_from(flow: &[u8], name: &[u8], kept: &mut [u64]) -> Judgement
+    requires { ⌜ Kept (now kept) × Ready (now flow) (stateIn (now kept)) × (length (now name) ≡ 20) ⌝ }
+    ensures { λ r. ⌜ (r ≡ judgedFrom (now (name .entry)) (stateIn (now (kept .entry))) (restOf (now (flow .entry)) (stateIn (now (kept .entry)) .seen)))
+        × (now (kept .exit) ≡ keptAfter (now (kept .entry)) (ran (now (name .entry)) (stateIn (now (kept .entry))) (restOf (now (flow .entry)) (stateIn (now (kept .entry)) .seen)) .state)) ⌝ }
 {
     let count = flow.len() / Flow::RECORD;
-    let name = &flow[Part::SUPPORT_NAME..Part::SUPPORT_NAME_END];
+    let start = state::state_in(kept);
     let clean = records::clean_records(flow, start.seen);
     let mut st = start;
     let mut own = words::number_word(st.deleghe);
-    'records: loop {
+    let judgement = 'records: loop {
         let k = st.seen;
         if k == clean {
             break 'records ended(flow, st, count);
@@ -206,7 +210,9 @@ fn judge_from(flow: &[u8], start: State) -> Judgement
                 credit: values[2],
             },
         );
-    }
+    };
+    state::keep(&mut *kept, st);
+    judgement
 }
 
 // The judgement of any bytes.
@@ -223,5 +229,10 @@ pub fn judge(flow: &[u8]) -> Judgement
     if n % Flow::RECORD != 0 {
         return refused(2, 0, 0);
     }
-    judge_from(flow, rules::start())
+    let mut none = [0u64; 0];
+    judge_from(
+        flow,
+        &flow[Part::SUPPORT_NAME..Part::SUPPORT_NAME_END],
+        &mut none,
+    )
 }

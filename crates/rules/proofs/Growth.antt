@@ -19,11 +19,11 @@ use Rattle.rules.specs.Step.{added, addedAt, nextDeleghe, nextOthers, ne
 use Rattle.order.specs.Order.{nextStage}
 
 -- the sums of five sections grow by a line's amounts
-sums-on : (b : ℕ) (l : List Sums) (s : ℕ) (x : Sums) → SumsBelow b l → Small x → SumsBelow (b + 1_000_000_000_000_000) (addedAt l s x)
+sums-on : (b : ℕ) (l : List Sums) (s : ℕ) (x : Sums) → SumsBelow b l → Small x → SumsBelow (b + 999_999_999_999_999) (addedAt l s x)
 unfolding addedAt
 sums-on b l s x g h = record { five = simp length-set (g .five); each = λ i. go i (decLt s (length l)) (ℕ-discrete i s) }
   where
-    go : (i : ℕ) → Dec (s < length l) → Dec (i ≡ s) → (getD (set l s (added (getD l s noSums) x)) i noSums .debit ≤ b + 1_000_000_000_000_000) × (getD (set l s (added (getD l s noSums) x)) i noSums .credit ≤ b + 1_000_000_000_000_000)
+    go : (i : ℕ) → Dec (s < length l) → Dec (i ≡ s) → (getD (set l s (added (getD l s noSums) x)) i noSums .debit ≤ b + 999_999_999_999_999) × (getD (set l s (added (getD l s noSums) x)) i noSums .credit ≤ b + 999_999_999_999_999)
     go i (yes p) (yes q) = let e = g .each s in rw (q, getD-set-same l s (added (getD l s noSums) x) noSums p) (omega arith, omega arith)
     go i (yes p) (no q) = let e = g .each i in rw (getD-set-other l s i (added (getD l s noSums) x) noSums q) (omega arith, omega arith)
     go i (no p) d = let e = g .each i in rw (set-out l s (added (getD l s noSums) x) (omega arith)) (omega arith, omega arith)
@@ -47,7 +47,7 @@ zero-below = record { five = refl; each = λ i. rw (zero-at 5 i) (omega arith, o
 fresh : (b t : ℕ) (m : Money) → t ≤ b → SumsBelow b (m .flow) → MoneyBelow b (record { delega = zeroDelega; flow = m .flow; total = t })
 fresh b t m h g = record { debits = omega arith; credits = omega arith; delegas = sums-room 0 b _ (omega arith) zero-below; flows = g }
 
-money-on : (b : ℕ) (m : Money) (k : Kind) (x : Sums) → MoneyBelow b m → Small x → MoneyBelow (b + 1_000_000_000_000_000) (nextMoney m k x)
+money-on : (b : ℕ) (m : Money) (k : Kind) (x : Sums) → MoneyBelow b m → Small x → MoneyBelow (b + 999_999_999_999_999) (nextMoney m k x)
 unfolding finalOf
 money-on b m Head x g h = money-room b _ m (omega arith) g
 money-on b m Taxpayer x g h = fresh _ (m .total) m (omega arith) (sums-room b _ _ (omega arith) (g .flows))
@@ -97,7 +97,7 @@ start-below = record { money-below = record { debits = omega arith; credits = om
 pub state-on : (st : State) (k : Kind) (x : Sums) → StateBelow st → Small x → StateBelow (nextOf st k x)
 state-on st k x g h =
     record {
-      money-below = rw (let e : (st .seen + 1) * 1_000_000_000_000_000 ≡ st .seen * 1_000_000_000_000_000 + 1_000_000_000_000_000 = omega arith in e) (money-on (st .seen * 1_000_000_000_000_000) (st .money) k x (g .money-below) h);
+      money-below = rw (let e : (st .seen + 1) * 999_999_999_999_999 ≡ st .seen * 999_999_999_999_999 + 999_999_999_999_999 = omega arith in e) (money-on (st .seen * 999_999_999_999_999) (st .money) k x (g .money-below) h);
       lines-below = lines-on (st .seen) (st .stage) k (g .lines-below);
       deleghe-below = deleghe-on (st .seen) (st .deleghe) k (g .deleghe-below);
       others-below = counts-on (st .seen) 0 (st .others) k (omega arith) (g .others-below) .1;
@@ -109,4 +109,4 @@ step-room st x g f h =
     let l = g .lines-below in
     let d = g .deleghe-below in
     let n = g .others-below in
-    ((money-room (st .seen * 1_000_000_000_000_000) _ (st .money) (omega arith) (g .money-below), h), (omega arith, omega arith, omega arith, f))
+    ((money-room (st .seen * 999_999_999_999_999) _ (st .money) (omega arith) (g .money-below), h), (omega arith, omega arith, omega arith, f))

@@ -4,3 +4,4 @@ pub mod Growth
 pub mod Numbers
 pub mod NonDigits
 pub mod Others
+pub mod SameName

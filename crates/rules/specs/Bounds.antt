@@ -32,7 +32,7 @@ pub record MoneyBelow (b : ℕ) (m : Money) : Type 0 where
 
 -- every record adds at most one line, one delega, one record that is no line, and one amount of fifteen digits
 pub record StateBelow (st : State) : Type 0 where
-  pub money-below : MoneyBelow (st .seen * 1_000_000_000_000_000) (st .money)
+  pub money-below : MoneyBelow (st .seen * 999_999_999_999_999) (st .money)
   pub lines-below : st .stage .lines ≤ st .seen
   pub deleghe-below : st .deleghe ≤ st .seen
   pub others-below : st .others ≤ st .seen

@@ -4,6 +4,7 @@ ghost use Prim.Native.Nat.{_<_};
 ghost use lib.ListN.{length, getD};
 ghost use Rattle.layout.specs.Sections.{sectionAt};
 ghost use Rattle.layout.specs.Fields.{bytesOf, taxCode, supportName};
+ghost use Rattle.amounts.specs.Names.{sameBytes};
 ghost use Rattle.amounts.specs.Outcomes.{first};
 ghost use Rattle.taxcode.specs.TaxCodes.{codeRight};
 ghost use Rattle.rules.specs.Checks.{carried, numberFault, tailName};
@@ -17,7 +18,6 @@ use amounts::date_right;
 use amounts::final_of;
 use amounts::line_fault;
 use amounts::name_right;
-use amounts::same_bytes;
 use amounts::sign_of;
 use layout::Kind;
 use layout::Part;
@@ -191,11 +191,25 @@ fn balance_record(st: State, s: usize, rec: &[u8], vs: [u64; 4]) -> Outcome
     balance_fault(s, section_sums(st, s), vs, rec[at])
 }
 
+// Whether the name in a record is the one given: three words, the last of which begins within the second.
+fn same_name(rec: &[u8], name: &[u8]) -> bool
+    requires { ⌜ (length (now rec) ≡ 120) × (length (now name) ≡ 20) ⌝ }
+    ensures { λ r. ⌜ r ≡ sameBytes (bytesOf (now (rec .entry)) supportName) (now (name .entry)) ⌝ }
+{
+    if words::word_at(rec, Part::SUPPORT_NAME) != words::word_at(name, 0) {
+        return false;
+    }
+    if words::word_at(rec, Part::SUPPORT_NAME + 8) != words::word_at(name, 8) {
+        return false;
+    }
+    words::word_at(rec, Part::SUPPORT_NAME + 12) == words::word_at(name, 12)
+}
+
 fn tail_record(st: State, name: &[u8], rec: &[u8], vs: [u64; 4]) -> Outcome
-    requires { ⌜ (length (now rec) ≡ 120) × (st .seen < 1000) ⌝ }
+    requires { ⌜ (length (now rec) ≡ 120) × (length (now name) ≡ 20) × (st .seen < 1000) ⌝ }
     ensures { λ r. ⌜ r ≡ first (tailName (now (name .entry)) (bytesOf (now (rec .entry)) supportName)) (tailOn st vs) ⌝ }
 {
-    if same_bytes(&rec[Part::SUPPORT_NAME..Part::SUPPORT_NAME_END], name) {
+    if same_name(rec, name) {
         return tail_fault(st, vs);
     }
     Outcome::Fault(16, Position::SUPPORT_NAME)
@@ -203,7 +217,7 @@ fn tail_record(st: State, name: &[u8], rec: &[u8], vs: [u64; 4]) -> Outcome
 
 // Checks 9 to 20 and 26, of a record of kind k whose numeric fields hold the values vs.
 fn amounts_fault(st: State, name: &[u8], k: Kind, rec: &[u8], vs: [u64; 4]) -> Outcome
-    requires { ⌜ (length (now rec) ≡ 120) × (st .seen < 1000) ⌝ }
+    requires { ⌜ (length (now rec) ≡ 120) × (length (now name) ≡ 20) × (st .seen < 1000) ⌝ }
     ensures { λ r. ⌜ r ≡ amountsOn (now (name .entry)) st k vs (now (rec .entry)) ⌝ }
 {
     let money = st.money;
@@ -225,7 +239,7 @@ fn amounts_fault(st: State, name: &[u8], k: Kind, rec: &[u8], vs: [u64; 4]) -> O
 
 // Checks 8 to 20 and 26.
 pub fn values_fault(st: State, name: &[u8], k: Kind, rec: &[u8], vs: [u64; 4]) -> Outcome
-    requires { ⌜ (length (now rec) ≡ 120) × (st .seen < 1000) × (st .deleghe < 1000) ⌝ }
+    requires { ⌜ (length (now rec) ≡ 120) × (length (now name) ≡ 20) × (st .seen < 1000) × (st .deleghe < 1000) ⌝ }
     ensures { λ r. ⌜ r ≡ valuesOn (now (name .entry)) st k vs (now (rec .entry)) ⌝ }
 {
     if let Outcome::Fault(number, position) = number_fault(st.deleghe, k, vs[0]) {

@@ -4,7 +4,7 @@ use Rattle.judge.specs.declared.Summary.{Summary}
 use mathlib.Core.Path.{_≡_}
 use lib.ListN.{length}
 use Rattle.rules.proofs.Arrays.{struct-array}
-use Rattle.f24.proofs.Rooms.{five-sums}
+use Rattle.state.proofs.Rooms.{five-sums}
 use borrow.Author.Needs.{needs}
 use Rattle.f24.proofs.summary_numbers.Statement.{statement}
 use Rattle.f24.proofs.summary_numbers.Tie as tie

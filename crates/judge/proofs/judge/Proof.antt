@@ -1,5 +1,7 @@
-use Rattle.judge.proofs.Turn.{judged-long, judged-empty, judged-ragged, judged-from-start, ready-start}
+use Rattle.judge.proofs.Turn.{judged-long, judged-empty, judged-ragged, judged-from-none, ready-none}
 use mathlib.Core.Path.{_≡_, refl, sym, ap, _∙_}
+use native.Mathlib.Omega.{arith}
+use Rattle.text.proofs.Bytes.{part-length}
 use borrow.Author.Needs.{needs}
 use Rattle.judge.proofs.judge.Statement.{statement}
 use Rattle.judge.proofs.judge.Tie as tie
@@ -22,14 +24,29 @@ refused-requires-3 c κs = search needs
 returns-3 : tie.Need-returns-3
 returns-3 c = c .refused3 .ensures ∙ sym (judged-ragged _ (c .before .before .before .if1 .left) (c .before .before .if2 .left) (c .before .if3 .taken))
 
-start-requires : tie.Need-start-requires
-start-requires c κs = search needs
+sub-judge-from : tie.Need-sub-judge-from
+sub-judge-from c = search needs
 
+part-judge-from-start : tie.Need-part-judge-from-start
+part-judge-from-start c = search needs
+
+part-judge-from-end : tie.Need-part-judge-from-end
+part-judge-from-end c = search needs
+
+slice-aggregate-judge-from : tie.Need-slice-aggregate-judge-from
+slice-aggregate-judge-from c = search needs
+
+-- a flow that refusals 1 and 2 leave has a record at least
 judge-from-requires : tie.Need-judge-from-requires
-judge-from-requires c κs = rw (c .start .ensures) (ready-start _ (c .before .before .before .if1 .left) (c .before .before .if2 .left) (c .before .if3 .left))
+judge-from-requires c κs =
+    let e = c .before .before in
+    let r = ready-none (e .before .before .before .before .args .flow .now) (e .before .before .if1 .left) (e .before .if2 .left) (e .if3 .left) in
+    (λ h. absurd (omega arith), r, part-length 20 19 (e .before .before .before .before .args .flow .now) (let s = r .some in let w = r .whole in omega arith))
 
 returns-4 : tie.Need-returns-4
-returns-4 c = rw (c .judge-from .ensures, c .before .start .ensures) (sym (judged-from-start _ (c .before .before .before .before .if1 .left) (c .before .before .before .if2 .left) (c .before .before .if3 .left)))
+returns-4 c =
+    let e = c .before .before .before .before in
+    c .before .judge-from .ensures .0 ∙ sym (judged-from-none (e .before .before .before .before .args .flow .now) (e .before .before .if1 .left) (e .before .if2 .left) (e .if3 .left))
 
 pub judge-spec : {M : Type 1} → statement M
 judge-spec =
@@ -41,6 +58,9 @@ judge-spec =
     returns-2
     refused-requires-3
     returns-3
-    start-requires
+    sub-judge-from
+    part-judge-from-start
+    part-judge-from-end
+    slice-aggregate-judge-from
     judge-from-requires
     returns-4)

@@ -1,11 +1,14 @@
-use Rattle.judge.proofs.Turn.{Going, going-refuses, going-on, fault-values}
+use Rattle.judge.proofs.Turn.{judged-ran, Going, going-on, fault-values}
 use Rattle.records.proofs.Sizes.{record-sized, pair-small}
 use Rattle.records.proofs.ValuesRead.{values-good, values-bad}
 use Rattle.records.proofs.FieldByField.{bad-on, bad-end, read-on}
 use Rattle.layout.proofs.Amounts.{behind, behind-length, behind-three, behind-first, behind-amount, behind-within, behind-next}
 use Rattle.judge.proofs.NumberedTurn.{number-then, values-then, amount-none, amount-bad, number-same, number-other, unnumbered-next}
-use Rattle.judge.proofs.WaysOut.{out-ended, out-misplaced, out-bad, out-misread}
-use Rattle.judge.specs.Flow.{refusedWith, after, judgedFrom, restOf, headNameOf}
+use Rattle.judge.proofs.WaysOut.{Out, out-ended, out-fault, out-misplaced, out-bad, out-misread}
+use Rattle.judge.specs.declared.Judgement.{Judgement}
+use Rattle.judge.specs.Flow.{refusedWith, after, judgedFrom, restOf, Ready}
+use Rattle.state.specs.Numbers.{keptAfter}
+use Rattle.judge.specs.Run.{Run, ran}
 use Rattle.records.specs.Reading.{Clean, valuesRead}
 use Rattle.records.specs.declared.Values.{Values}
 use Rattle.rules.proofs.Growth.{step-room, deleghe-on}
@@ -47,31 +50,45 @@ use Rattle.judge.proofs.judge_from.Statement.{statement}
 use Rattle.judge.proofs.judge_from.Tie as tie
 
 abbrev Inv-loop : tie.InvT-loop
-Inv-loop flow count name clean st own k rec kind values₀ d last at₀ f₀ values at f =
+Inv-loop flow name kept count clean st own k rec kind values₀ d last at₀ f₀ values at f =
     (f ≤ length (behind (kindIn rec))) × (badFields (behind (kindIn rec)) rec ≡ badFields (drop f (behind (kindIn rec))) rec) × (values ≡ d ∷ (map (valueOf rec) (take f (behind (kindIn rec))) ++ replicate (3 - f) 0)) × (f < length (behind (kindIn rec)) → at ≡ getD (behind (kindIn rec)) f nowhere .start)
 
 abbrev μ-loop : tie.MeasureT-loop
-μ-loop flow count name clean st own k rec kind values₀ d last at₀ f₀ values at f = last - f
+μ-loop flow name kept count clean st own k rec kind values₀ d last at₀ f₀ values at f = last - f
 
 abbrev Inv-records : tie.InvT-records
-Inv-records flow count name clean st₀ own₀ st own =
-    Going flow (judgedFrom (headNameOf flow) st₀ (restOf flow (st₀ .seen))) st × (st₀ .seen ≤ st .seen) × (st .seen ≤ clean) × (own ≡ word (digitsOf 8 (st .deleghe)))
+Inv-records flow name kept count clean st₀ own₀ st own =
+    Going flow name (ran name st₀ (restOf flow (st₀ .seen))) st × (st₀ .seen ≤ st .seen) × (st .seen ≤ clean) × (own ≡ word (digitsOf 8 (st .deleghe)))
 
 abbrev μ-records : tie.MeasureT-records
-μ-records flow count name clean st₀ own₀ st own = clean - st .seen
+μ-records flow name kept count clean st₀ own₀ st own = clean - st .seen
 
 -- the place after `record_at`: the flow, the state before the record, the record, and the judgement that is to be
 abbrev AtRec : Type 0
 AtRec = tie.After-record-at Inv-loop μ-loop Inv-records μ-records
 
+-- where the function begins, and the state that it starts from
+abbrev begun : tie.After-clean-records Inv-loop μ-loop Inv-records μ-records → tie.Start Inv-loop μ-loop Inv-records μ-records
+begun c = c .before .before .before .before .before .before
+
+ready : (c : tie.After-state-in Inv-loop μ-loop Inv-records μ-records) → Ready (c .before .before .before .before .before .args .flow .now) (c .state-in .result)
+ready c = rw (c .state-in .ensures) (c .before .before .before .before .before .pre .1)
+
 abbrev first-of : AtRec → tie.After-clean-records Inv-loop μ-loop Inv-records μ-records
 first-of c = c .before .before .before .before
 
 abbrev flow : AtRec → List ℕ
-flow c = first-of c .before .before .before .args .flow .now
+flow c = begun (first-of c) .args .flow .now
+
+abbrev name : AtRec → List ℕ
+name c = begun (first-of c) .args .name .now
 
 abbrev start : AtRec → State
-start c = first-of c .before .before .before .args .start
+start c = first-of c .before .state-in .result
+
+-- the run over the records that are left
+abbrev run : AtRec → Run
+run c = ran (name c) (start c) (restOf (flow c) (start c .seen))
 
 abbrev st : AtRec → State
 st c = c .before .before .records .st
@@ -79,7 +96,7 @@ st c = c .before .before .records .st
 abbrev r : AtRec → List ℕ
 r c = c .record-at .result .now
 
-going : (c : AtRec) → Going (flow c) (judgedFrom (headNameOf (flow c)) (start c) (restOf (flow c) (start c .seen))) (st c)
+going : (c : AtRec) → Going (flow c) (name c) (run c) (st c)
 going c = c .before .before .records .inv .0
 
 cleared : (c : AtRec) → Clean (flow c) (start c .seen) (first-of c .clean-records .result)
@@ -92,7 +109,7 @@ more : (c : AtRec) → st c .seen < length (flow c) / 120
 more c = let w = within-clean c in let a = cleared c .ahead in omega arith
 
 small : (c : AtRec) → st c .seen < 546
-small c = omega (arith, more c, first-of c .before .before .before .pre .short)
+small c = omega (arith, more c, ready (first-of c .before) .short)
 
 whole : (c : AtRec) → length (r c) ≡ 120
 whole c = rw (c .record-at .ensures) (record-sized (flow c) (st c .seen) (more c))
@@ -297,22 +314,21 @@ AtValues = tie.After-values-fault Inv-loop μ-loop Inv-records μ-records
 abbrev rv : AtValues → AtRec
 rv c = rec-of (c .before .before)
 
-judged-by : (c : AtValues) → fault (headNameOf (flow (rv c))) (st (rv c)) (r (rv c)) ≡ c .values-fault .result
+judged-by : (c : AtValues) → fault (name (rv c)) (st (rv c)) (r (rv c)) ≡ c .values-fault .result
 judged-by c =
     let m = met (c .before) in
     let q = c .before .before in
-    let name = headNameOf (flow (rv c)) in
-    fault-values name (st (rv c)) (r (rv c)) (kindIn (r (rv c))) refl (printed (rv c)) (stood q) (m .0)
+    fault-values (name (rv c)) (st (rv c)) (r (rv c)) (kindIn (r (rv c))) refl (printed (rv c)) (stood q) (m .0)
     (sym (c .values-fault .ensures
-    ∙ (ap (λ (k : Kind). valuesOn name (st (rv c)) k (c .before .if3 .values) (r (rv c))) (kind-is (formed q))
-    ∙ ap (λ (vs : List ℕ). valuesOn name (st (rv c)) (kindIn (r (rv c))) vs (r (rv c))) (m .1))))
+    ∙ (ap (λ (k : Kind). valuesOn (name (rv c)) (st (rv c)) k (c .before .if3 .values) (r (rv c))) (kind-is (formed q))
+    ∙ ap (λ (vs : List ℕ). valuesOn (name (rv c)) (st (rv c)) (kindIn (r (rv c))) vs (r (rv c))) (m .1))))
 
 -- the judgement of a record that was misread
-misread-out : (c : AtNumbered) → (badFields (fieldsOf (kindIn (r (rec-of c)))) (r (rec-of c)) ≡ Pass → numberFault (st (rec-of c) .deleghe) (kindIn (r (rec-of c))) (valueOf (r (rec-of c)) delegaNumber) ≡ Fault 8 4) → after (badFields (fieldsOf (formed c .form-in .result .kind)) (r (rec-of c))) (st (rec-of c) .seen) (refusedWith 8 (st (rec-of c) .seen + 1) 4) ≡ judgedFrom (headNameOf (flow (rec-of c))) (start (rec-of c)) (restOf (flow (rec-of c)) (start (rec-of c) .seen))
+misread-out : (c : AtNumbered) → (badFields (fieldsOf (kindIn (r (rec-of c)))) (r (rec-of c)) ≡ Pass → numberFault (st (rec-of c) .deleghe) (kindIn (r (rec-of c))) (valueOf (r (rec-of c)) delegaNumber) ≡ Fault 8 4) → Out (after (badFields (fieldsOf (formed c .form-in .result .kind)) (r (rec-of c))) (st (rec-of c) .seen) (refusedWith 8 (st (rec-of c) .seen + 1) 4)) (run (rec-of c)) (st (rec-of c))
 misread-out c w =
     let q = rec-of c in
-    ap (λ (k : Kind). after (badFields (fieldsOf k) (r q)) (st q .seen) (refusedWith 8 (st q .seen + 1) 4)) (kind-is (formed c))
-    ∙ out-misread (flow q) _ (st q) (going q) (more q) (r q) (q .record-at .ensures) (printed q) (stood c) w
+    let o = out-misread (flow q) (name q) (run q) (st q) (going q) (more q) (r q) (q .record-at .ensures) (printed q) (stood c) w in
+    (ap (λ (k : Kind). after (badFields (fieldsOf k) (r q)) (st q .seen) (refusedWith 8 (st q .seen + 1) 4)) (kind-is (formed c)) ∙ o .0, o .1)
 
 next-is : (c : tie.After-next-state Inv-loop μ-loop Inv-records μ-records) → c .next-state .result ≡ nextOf (st (rv (c .before .before .before))) (kindIn (r (rv (c .before .before .before)))) (pairOf (valuesIn (fieldsOf (kindIn (r (rv (c .before .before .before))))) (r (rv (c .before .before .before)))))
 next-is c =
@@ -321,26 +337,20 @@ next-is c =
     ∙ (ap (λ (k : Kind). nextOf (st (rv v)) k (pairOf (v .before .if3 .values))) (kind-is (formed (v .before .before)))
     ∙ ap (λ (vs : List ℕ). nextOf (st (rv v)) (kindIn (r (rv v))) (pairOf vs)) (met (v .before) .1))
 
-sub-name : tie.Need-sub-name Inv-loop μ-loop Inv-records μ-records
-sub-name c = search needs
-
-part-name-start : tie.Need-part-name-start Inv-loop μ-loop Inv-records μ-records
-part-name-start c = search needs
-
-part-name-end : tie.Need-part-name-end Inv-loop μ-loop Inv-records μ-records
-part-name-end c = search needs
+state-in-requires : tie.Need-state-in-requires Inv-loop μ-loop Inv-records μ-records
+state-in-requires c κs = c .before .before .before .before .pre .0
 
 clean-records-requires : tie.Need-clean-records-requires Inv-loop μ-loop Inv-records μ-records
-clean-records-requires c κs = c .before .before .pre .ahead
+clean-records-requires c κs = ready c .ahead
 
 number-word-requires : tie.Need-number-word-requires Inv-loop μ-loop Inv-records μ-records
-number-word-requires c κs = let b = c .before .before .before .pre .below .deleghe-below in let a = c .before .before .before .pre .ahead in omega (arith, c .before .before .before .pre .short)
+number-word-requires c κs = let p = ready (c .before) in let b = p .below .deleghe-below in let a = p .ahead in omega (arith, p .short)
 
 records-holds : tie.Need-records-holds Inv-loop μ-loop Inv-records μ-records
-records-holds c = (record { ahead = c .before .before .before .before .pre .ahead; rest = refl; below = c .before .before .before .before .pre .below }, omega arith, c .before .clean-records .ensures .behind, c .number-word .ensures)
+records-holds c = (record { ahead = ready (c .before .before) .ahead; rest = refl; below = ready (c .before .before) .below }, omega arith, c .before .clean-records .ensures .behind, c .number-word .ensures)
 
 ended-requires : tie.Need-ended-requires Inv-loop μ-loop Inv-records μ-records
-ended-requires c κs = (refl, let a = c .before .records .inv .0 .ahead in omega arith, let a = c .before .records .inv .0 .ahead in omega (arith, c .before .before .before .before .before .before .pre .short), c .before .records .inv .0 .below .others-below)
+ended-requires c κs = (refl, let a = c .before .records .inv .0 .ahead in omega arith, let a = c .before .records .inv .0 .ahead in omega (arith, ready (c .before .before .before .before) .short), c .before .records .inv .0 .below .others-below)
 
 mul-record-at : tie.Need-mul-record-at Inv-loop μ-loop Inv-records μ-records
 mul-record-at c = search needs
@@ -443,7 +453,7 @@ refused-requires : tie.Need-refused-requires Inv-loop μ-loop Inv-records μ-rec
 refused-requires c κs = search needs
 
 values-fault-requires : tie.Need-values-fault-requires Inv-loop μ-loop Inv-records μ-records
-values-fault-requires c κs = let q = rec-of (c .before) in let b = going q .below .deleghe-below in let s = small q in (whole q, omega arith, omega arith)
+values-fault-requires c κs = let q = rec-of (c .before) in let b = going q .below .deleghe-below in let s = small q in (whole q, begun (first-of q) .pre .2, omega arith, omega arith)
 
 enum-known-number : tie.Need-enum-known-number Inv-loop μ-loop Inv-records μ-records
 enum-known-number c = search needs
@@ -457,11 +467,11 @@ refused-requires-2 c κs = search needs
 enum-told-3 : tie.Need-enum-told-3 Inv-loop μ-loop Inv-records μ-records
 enum-told-3 c = search needs
 
-array-read-t47 : tie.Need-array-read-t47 Inv-loop μ-loop Inv-records μ-records
-array-read-t47 c = search needs
+array-read-t49 : tie.Need-array-read-t49 Inv-loop μ-loop Inv-records μ-records
+array-read-t49 c = search needs
 
-array-read-t50 : tie.Need-array-read-t50 Inv-loop μ-loop Inv-records μ-records
-array-read-t50 c = search needs
+array-read-t52 : tie.Need-array-read-t52 Inv-loop μ-loop Inv-records μ-records
+array-read-t52 c = search needs
 
 next-state-requires : tie.Need-next-state-requires Inv-loop μ-loop Inv-records μ-records
 next-state-requires c κs =
@@ -478,50 +488,114 @@ records-again c =
     let v = c .before .before .before in
     let q = rv v in
     let b = q .before .before .records .inv in
-    rw (next-is c) (going-on _ _ _ (going q) (more q) _ (q .record-at .ensures) _ refl (whole q) (judged-by v ∙ c .before .enum-told3 .given .1), omega (arith, b .1), omega (arith, within-clean q), met (v .before) .2)
+    rw (next-is c) (going-on _ _ _ _ (going q) (more q) _ (q .record-at .ensures) _ refl (whole q) (judged-by v ∙ c .before .enum-told3 .given .1), omega (arith, b .1), omega (arith, within-clean q), met (v .before) .2)
 
-returns : tie.Need-returns Inv-loop μ-loop Inv-records μ-records
-returns c = c .ended .ensures ∙ out-ended _ _ _ (c .before .before .records .inv .0) (c .before .before .before .before .before .before .before .args .start .seen) (rw (c .before .if1 .taken) (c .before .before .before .before .clean-records .ensures))
+-- the ways out of the loop
+abbrev Leaves : (c : tie.At-records Inv-loop μ-loop Inv-records μ-records) → Judgement → Type 0
+Leaves c j =
+    let a = c .before .before in
+    let f = begun a .args .flow .now in
+    let n = begun a .args .name .now in
+    Out j (ran n (a .before .state-in .result) (restOf f (a .before .state-in .result .seen))) (c .records .st)
 
-returns-2 : tie.Need-returns-2 Inv-loop μ-loop Inv-records μ-records
-returns-2 c =
+leaves-ended : (c : tie.After-ended Inv-loop μ-loop Inv-records μ-records) → Leaves (c .before .before) (c .ended .result)
+leaves-ended c =
+    let a = c .before .before .before .before in
+    let o = out-ended (begun a .args .flow .now) (begun a .args .name .now) _ _ (c .before .before .records .inv .0) (a .before .state-in .result .seen) (rw (c .before .if1 .taken) (a .clean-records .ensures)) in
+    (c .ended .ensures ∙ o .0, o .1)
+
+leaves-misplaced : (c : tie.After-misplaced Inv-loop μ-loop Inv-records μ-records) → Leaves (c .before .before .before .before .before .before .before) (c .misplaced .result)
+leaves-misplaced c =
     let n = c .before .before in
     let f = n .before .before in
     let q = f .before in
-    c .misplaced .ensures
-    ∙ (ap (λ (k : Kind). after (standing (st q .stage) (typeIn (r q)) k) (st q .seen) (refusedWith 4 (st q .seen + 1) 2)) (kind-is f)
-    ∙ out-misplaced (flow q) _ (st q) (going q) (more q) (r q) (q .record-at .ensures) (printed q) (rw (← (kind-is f)) (sym (n .fits2 .ensures) ∙ turned (n .fits2 .result) (c .before .if2 .taken))) _)
+    let o = out-misplaced (flow q) (name q) (run q) (st q) (going q) (more q) (r q) (q .record-at .ensures) (printed q) (rw (← (kind-is f)) (sym (n .fits2 .ensures) ∙ turned (n .fits2 .result) (c .before .if2 .taken))) _ in
+    (c .misplaced .ensures ∙ (ap (λ (k : Kind). after (standing (st q .stage) (typeIn (r q)) k) (st q .seen) (refusedWith 4 (st q .seen + 1) 2)) (kind-is f) ∙ o .0), o .1)
 
-returns-3 : tie.Need-returns-3 Inv-loop μ-loop Inv-records μ-records
-returns-3 c =
+leaves-no-amount : (c : tie.After-misread Inv-loop μ-loop Inv-records μ-records) → Leaves (rec-of (num-of (next-of (c .before .before .before .before .before))) .before .before) (c .misread .result)
+leaves-no-amount c =
     let a = c .before .before .before in
     let i = a .before in
     let l = i .before in
     let n = is-number (next-of l) in
-    c .misread .ensures ∙ misread-out (num-of (next-of l)) (λ p. absurd (amount-bad (rl l) n (λ q. amount-none _ _ _ (ahead i) (sym (said a) ∙ c .before .enum-told2 .given .1) (sym (l .loop .inv .1) ∙ q)) p))
+    let o = misread-out (num-of (next-of l)) (λ p. absurd (amount-bad (rl l) n (λ q. amount-none _ _ _ (ahead i) (sym (said a) ∙ c .before .enum-told2 .given .1) (sym (l .loop .inv .1) ∙ q)) p)) in
+    (c .misread .ensures ∙ o .0, o .1)
 
-returns-4 : tie.Need-returns-4 Inv-loop μ-loop Inv-records μ-records
-returns-4 c =
+leaves-other-number : (c : tie.After-misread2 Inv-loop μ-loop Inv-records μ-records) → Leaves (rec-of (num-of (past-of (c .before .before))) .before .before) (c .misread2 .result)
+leaves-other-number c =
     let a = c .before .before in
     let n = past-of a in
     let q = rec-of (num-of n) in
-    c .misread2 .ensures
-    ∙ misread-out (num-of n) (λ p. number-other (r q) (is-number n) (whole q) (fine q) (d-of n) (d-small n) (st q .deleghe) (d-is n) (λ e. false≢true (sym (turned (a .carries .result) (c .before .if4 .taken)) ∙ (compared a ∙ eq-eqb _ _ (e ∙ sym (word-is (a .before .before .before)))))) p)
+    let o = misread-out (num-of n) (λ p. number-other (r q) (is-number n) (whole q) (fine q) (d-of n) (d-small n) (st q .deleghe) (d-is n) (λ e. false≢true (sym (turned (a .carries .result) (c .before .if4 .taken)) ∙ (compared a ∙ eq-eqb _ _ (e ∙ sym (word-is (a .before .before .before)))))) p) in
+    (c .misread2 .ensures ∙ o .0, o .1)
 
-returns-5 : tie.Need-returns-5 Inv-loop μ-loop Inv-records μ-records
-returns-5 c =
+leaves-bad-field : (c : tie.After-refused Inv-loop μ-loop Inv-records μ-records) → Leaves (rec-of (c .before .before .before .before .before) .before .before) (c .refused .result)
+leaves-bad-field c =
     let v = c .before .before .before in
     let n = v .before .before in
     let q = rec-of n in
-    c .refused .ensures
-    ∙ (ap (λ (x : Values). refusedWith 7 (st q .seen + 1) (x .bad)) (read-plainly v)
-    ∙ out-bad (flow q) _ (st q) (going q) (more q) (r q) (q .record-at .ensures) (printed q) (stood n) (values-bad _ _ (λ z. c .before .if5 .taken (ap (λ (x : Values). x .bad) (read-plainly v) ∙ z))))
+    let o = out-bad (flow q) (name q) (run q) (st q) (going q) (more q) (r q) (q .record-at .ensures) (printed q) (stood n) (values-bad _ _ (λ z. c .before .if5 .taken (ap (λ (x : Values). x .bad) (read-plainly v) ∙ z))) in
+    (c .refused .ensures ∙ (ap (λ (x : Values). refusedWith 7 (st q .seen + 1) (x .bad)) (read-plainly v) ∙ o .0), o .1)
 
-returns-6 : tie.Need-returns-6 Inv-loop μ-loop Inv-records μ-records
-returns-6 c =
+leaves-bad-value : (c : tie.After-refused2 Inv-loop μ-loop Inv-records μ-records) → Leaves (rv (c .before .before .before .before) .before .before) (c .refused2 .result)
+leaves-bad-value c =
     let v = c .before .before .before .before in
     let q = rv v in
-    c .refused2 .ensures ∙ sym (going-refuses (flow q) _ (st q) (going q) (more q) (r q) (q .record-at .ensures) (judged-by v ∙ c .before .before .number .given .1))
+    let o = out-fault (flow q) (name q) (run q) (st q) (going q) (more q) (r q) (q .record-at .ensures) (judged-by v ∙ c .before .before .number .given .1) in
+    (c .refused2 .ensures ∙ o .0, o .1)
+
+-- where they meet
+abbrev Left : Type 0
+Left = tie.Joined1 Inv-loop μ-loop Inv-records μ-records
+
+left : (c : Left) → Leaves (c .before) (c .if1 .judgement)
+left c =
+    ⊎-elim
+    (λ w.
+    let q : tie.After-ended Inv-loop μ-loop Inv-records μ-records = record { before = record { before = c .before; if1 = w .0 }; ended = w .1 } in
+    let o = leaves-ended q in
+    (w .3 ∙ o .0, o .1))
+    (⊎-elim
+    (λ w.
+    let q : tie.After-misplaced Inv-loop μ-loop Inv-records μ-records = record { before = record { before = record { before = record { before = record { before = record { before = record { before = c .before; if1 = w .0 }; record-at = w .1 }; form-in = w .2 }; stage = w .3 }; fits2 = w .4 }; if2 = w .5 }; misplaced = w .6 } in
+    let o = leaves-misplaced q in
+    (w .8 ∙ o .0, o .1))
+    (⊎-elim
+    (λ w.
+    let q : tie.After-misread Inv-loop μ-loop Inv-records μ-records = record { before = record { before = record { before = record { before = record { before = record { before = record { before = record { before = record { before = record { before = record { before = record { before = record { before = record { before = record { before = record { before = c .before; if1 = w .0 }; record-at = w .1 }; form-in = w .2 }; stage = w .3 }; fits2 = w .4 }; if2 = w .5 }; is-numbered = w .6 }; if3 = w .7 }; next-deleghe = w .8 }; match = w .9 }; loop = w .10 }; loop-test = w .11 }; amount-at = w .12 }; match2 = w .13 }; enum-told2 = w .14 }; misread = w .15 } in
+    let o = leaves-no-amount q in
+    (w .17 ∙ o .0, o .1))
+    (⊎-elim
+    (λ w.
+    let q : tie.After-misread2 Inv-loop μ-loop Inv-records μ-records = record { before = record { before = record { before = record { before = record { before = record { before = record { before = record { before = record { before = record { before = record { before = record { before = record { before = record { before = record { before = c .before; if1 = w .0 }; record-at = w .1 }; form-in = w .2 }; stage = w .3 }; fits2 = w .4 }; if2 = w .5 }; is-numbered = w .6 }; if3 = w .7 }; next-deleghe = w .8 }; match = w .9 }; loop = w .10 }; loop-test = w .11 }; carries = w .12 }; if4 = w .13 }; misread2 = w .14 } in
+    let o = leaves-other-number q in
+    (w .16 ∙ o .0, o .1))
+    (⊎-elim
+    (λ w.
+    let q : tie.After-refused Inv-loop μ-loop Inv-records μ-records = record { before = record { before = record { before = record { before = record { before = record { before = record { before = record { before = record { before = record { before = record { before = record { before = c .before; if1 = w .0 }; record-at = w .1 }; form-in = w .2 }; stage = w .3 }; fits2 = w .4 }; if2 = w .5 }; is-numbered = w .6 }; if3 = w .7 }; values-in = w .8 }; struct-known = w .9 }; if5 = w .10 }; refused = w .11 } in
+    let o = leaves-bad-field q in
+    (w .13 ∙ o .0, o .1))
+    (λ w.
+    let q : tie.After-refused2 Inv-loop μ-loop Inv-records μ-records = record { before = record { before = record { before = record { before = record { before = record { before = record { before = record { before = record { before = record { before = record { before = record { before = record { before = c .before; if1 = w .0 }; record-at = w .1 }; form-in = w .2 }; stage = w .3 }; fits2 = w .4 }; if2 = w .5 }; is-numbered = w .6 }; if3 = w .7 }; values-fault = w .8 }; match3 = w .9 }; number = w .10 }; known-told2 = w .11 }; refused2 = w .12 } in
+    let o = leaves-bad-value q in
+    (w .14 ∙ o .0, o .1))))))
+    (c .if1 .came)
+
+keep-requires : tie.Need-keep-requires Inv-loop μ-loop Inv-records μ-records
+keep-requires c κs = c .before .before .before .before .before .before .before .before .before .before .pre .0
+
+same-length : tie.Need-same-length Inv-loop μ-loop Inv-records μ-records
+same-length c = search needs
+
+returns : tie.Need-returns Inv-loop μ-loop Inv-records μ-records
+returns c =
+    let j = c .before .before .before .before in
+    let o = left j in
+    let a = j .before .before .before in
+    let e = a .before .state-in .ensures in
+    let f = begun a .args .flow .now in
+    let n = begun a .args .name .now in
+    (o .0 ∙ (sym (judged-ran n _ _) ∙ ap (λ (s : State). judgedFrom n s (restOf f (s .seen))) e), c .before .before .keep .ensures ∙ ap (keptAfter (begun a .args .kept .now)) (o .1 ∙ ap (λ (s : State). ran n s (restOf f (s .seen)) .state) e))
 
 pub judge-from-spec : {M : Type 1} → statement M
 judge-from-spec =
@@ -531,9 +605,7 @@ judge-from-spec =
     μ-loop
     Inv-records
     μ-records
-    sub-name
-    part-name-start
-    part-name-end
+    state-in-requires
     clean-records-requires
     number-word-requires
     records-holds
@@ -571,14 +643,11 @@ judge-from-spec =
     add-refused-2
     refused-requires-2
     enum-told-3
-    array-read-t47
-    array-read-t50
+    array-read-t49
+    array-read-t52
     next-state-requires
     records-less
     records-again
-    returns
-    returns-2
-    returns-3
-    returns-4
-    returns-5
-    returns-6)
+    keep-requires
+    same-length
+    returns)

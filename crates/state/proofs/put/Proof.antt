@@ -1,14 +1,14 @@
--- `f24::put` meets its contract. The loop's invariant: putting the numbers that are left into the room as it is now gives what laying
+-- `state::put` meets its contract. The loop's invariant: putting the numbers that are left into the room as it is now gives what laying
 -- all of them over the room as it came gives. The measure is the number of numbers left.
 use Prim.Native.Nat.{_-_, _≤_}
 use mathlib.Core.Path.{_≡_, refl, sym, _∙_}
 use native.Mathlib.Omega.{arith}
 use lib.ListN.{length, drop, length-set}
-use Rattle.f24.specs.Linked.{overlay}
+use Rattle.state.specs.Numbers.{overlay}
 use Rattle.text.specs.Placing.{putAt}
-use Rattle.f24.proofs.Rooms.{overlay-put, put-on, put-end}
-use Rattle.f24.proofs.put.Statement.{statement}
-use Rattle.f24.proofs.put.Tie as tie
+use Rattle.state.proofs.Rooms.{overlay-put, put-on, put-end}
+use Rattle.state.proofs.put.Statement.{statement}
+use Rattle.state.proofs.put.Tie as tie
 
 abbrev Inv-loop : tie.InvT-loop
 Inv-loop room₀ numbers i₀ room i =

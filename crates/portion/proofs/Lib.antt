@@ -1,0 +1,13 @@
+pub mod Counts
+pub mod Sound
+pub mod Reach
+pub mod Ways
+pub mod Split
+pub mod Stays
+pub mod Again
+pub mod Portions
+pub mod Series
+pub mod Judged
+pub mod Examined
+pub mod Depends
+pub mod OneAnswer

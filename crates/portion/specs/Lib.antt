@@ -1,0 +1,3 @@
+pub mod Portion
+pub mod Inner
+pub mod Series

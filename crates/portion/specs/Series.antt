@@ -1,0 +1,35 @@
+-- For theorems. Series of calls, what a judgement needs, and the records that a run steps over.
+use Prim.Native.Nat.{ℕ, zero, suc, _+_, _/_}
+use mathlib.Core.List.{List, [], _∷_}
+use lib.ListN.{length}
+use Rattle.amounts.specs.declared.Outcome.{Outcome}
+use Rattle.amounts.specs.declared.Outcome.the-variants.{Pass, Fault}
+use Rattle.rules.specs.declared.State.{State}
+use Rattle.rules.specs.Checks.{fault}
+use Rattle.rules.specs.Step.{next}
+use Rattle.judge.specs.Flow.{judged}
+use Rattle.portion.specs.declared.Progress.{Progress}
+use Rattle.portion.specs.declared.Portion.{Portion}
+use Rattle.portion.specs.Portion.{endedBy, examinedBy, portioned}
+
+-- the last of a series of calls, each from what the one before it handed back
+unfoldable pub called : List ℕ → Progress → ℕ → List ℕ → Portion
+called s x p [] = portioned s p x
+called s x p (q ∷ qs) = called s (portioned s p x .next) q qs
+
+unfoldable pub total : List ℕ → ℕ
+total [] = 0
+total (p ∷ ps) = p + total ps
+
+-- the last record that the judgement of a flow needs: "the number of the refusing record, all records for acceptance or refusal 5, and none for 1 or 2"
+unfoldable pub needed : List ℕ → ℕ
+needed s = examinedBy (endedBy (judged s .verdict)) (length s / 120)
+
+-- "the definition's record steps": the records that a run comes to
+abbrev pub oneMore : Outcome → ℕ → ℕ
+oneMore Pass n = suc n
+oneMore (Fault e p) n = 1
+
+unfoldable pub steps : List ℕ → State → List (List ℕ) → ℕ
+steps name st [] = zero
+steps name st (r ∷ rs) = oneMore (fault name st r) (steps name (next st r) rs)
