@@ -1,4 +1,4 @@
-"""Writes the run cases of the other calls: corrections, the calls that read, and flows written from sheets. Run from anywhere: python3 cases/make_calls.py"""
+"""Writes the run cases of the other calls: corrections, the calls that read, flows written from sheets, and flows judged by portions. Run from anywhere: python3 cases/make_calls.py"""
 
 import re
 import sys
@@ -9,6 +9,7 @@ sys.dont_write_bytecode = True
 import corrections      # adds its cases to the list
 import sheets, sheet_faults, samples        # these too
 import correction
+import portions
 import readings
 import sheet
 
@@ -37,7 +38,7 @@ def framed(crate, file, calls, more=()):
     (folder / "data" / file).write_bytes(data)
     (folder / "stdout").write_text("".join(line + "\n" for line in [*stdout, *more]), encoding="ascii", newline="\n")
     refused = sum(line.startswith("REFUSED") for *_, lines, _ in calls for line in lines)
-    print("%s: %d calls, %d refused; data/%s %d bytes" % (crate, len(calls), refused, file, len(data)))
+    print("%s: %d calls%s; data/%s %d bytes" % (crate, len(calls), ", %d refused" % refused if refused else "", file, len(data)))
 
 
 def answers(file):
@@ -49,3 +50,5 @@ written("correct_cases", [(name, numbers, (before, after), lines, why) for name,
 written("reading_cases", [(name, numbers, (flow,), lines, why) for name, numbers, flow, lines, why in readings.CALLS], answers("delega_vectors.answers"))
 framed("write_cases", "sheets", [(name, (length, 0, 0, 0, 0), (data, after), lines, why) for name, length, data, after, lines, why in sheet.CASES],
        answers("sheet_vectors.answers"))
+framed("portion_cases", "calls", [(name, numbers, (flow, b" ".join(b"%020d" % n for n in state)), lines, why) for name, numbers, flow, state, lines, why in portions.CALLS],
+       answers("portion_vectors.answers"))

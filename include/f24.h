@@ -1,4 +1,4 @@
-/* f24.h: CBI F24 flows, judged, corrected and written from working sheets.
+/* f24.h: CBI F24 flows, judged at once or by portions, corrected and written from working sheets.
  *
  * The functions of the static library libf24.a, for C and all that speaks C on x86-64 Linux. docs/LINKING.md says how
  * to build and link it.
@@ -7,21 +7,26 @@
  * from 1. Amounts are whole cents.
  *
  * Every function takes any bytes of any length as a flow or a sheet and any number as a number: it asks nothing but that
- *   - flow, sheet and room point to as many bytes as their lengths say, and answer, aligned as uint64_t is, to
- *     answer_len numbers;
+ *   - flow, sheet and room point to as many bytes as their lengths say, and answer and state, aligned as uint64_t is,
+ *     to answer_len and state_len numbers;
  *   - no pointer is null, not even where its length is 0;
  *   - none of them overlaps another, and nobody else writes to them during the call.
  * Nothing is allocated, kept between calls or printed: calls from several threads do not meet, so long as what they
- * are lent does not.
+ * are lent does not. What a judgement by portions goes on from is in the state, which the caller keeps.
  *
  * What a function returns:
- *   0             accepted, found, made or written: see each function for the answer
+ *   0             accepted, found, made, written or started: see each function for the answer
  *   1 to 26       the number of the refusal, as docs/REFUSALS.md lists them. answer[0] is then the record and answer[1]
- *                 the position, both 0 where the refusal has no place; nothing else is written
- *   100           there is room for too few numbers in answer (F24_NO_ROOM): nothing was read, written or corrected
+ *                 the position, both 0 where the refusal has no place; nothing else is written. f24_judge_portion has
+ *                 the number of records examined before them
+ *   100           there is room for too few numbers in answer or in state (F24_NO_ROOM): nothing was read, written or
+ *                 corrected
+ *   101           the judgement by portions has not ended yet (F24_NOT_ENDED)
+ *   102           the state is foreign: no judgement by portions of this flow handed it back (F24_FOREIGN)
+ * 101 and 102 come from f24_judge_portion alone.
  *
- * Numbers of answer beyond those that are written stay as they were, and so does every byte of a flow that is not
- * corrected and every byte of a room that no flow is written to.
+ * Numbers of answer and of state beyond those that are written stay as they were, and so does every byte of a flow that
+ * is not corrected and every byte of a room that no flow is written to.
  *
  * The sections stand in this order everywhere: Erario (lines 40-01), INPS (40-03), Regioni (40-05), IMU and local
  * taxes (40-07), identifying elements (40-17).
@@ -40,8 +45,12 @@ extern "C" {
  * numbers then and f24_delega for 11, and the sums stood at answer[3] and answer[1] on. */
 #define F24_VERSION 2
 
-/* The return value where answer has too little room. */
+/* The return value where answer or state has too little room. */
 #define F24_NO_ROOM 100
+
+/* The return values of a judgement by portions that are no verdict. */
+#define F24_NOT_ENDED 101
+#define F24_FOREIGN 102
 
 /* How many numbers each answer must have room for, refusals included. */
 #define F24_JUDGE_ROOM 14
@@ -49,6 +58,10 @@ extern "C" {
 #define F24_FIND_ROOM 2
 #define F24_CORRECT_ROOM 2
 #define F24_WRITE_ROOM 2
+#define F24_PORTION_ROOM 15
+
+/* How many numbers a state is. */
+#define F24_STATE_ROOM 53
 
 /* Judges a flow. Where it is accepted:
  *   answer[0]           number of deleghe
@@ -112,6 +125,30 @@ uint64_t f24_correct(uint8_t *flow, size_t flow_len, uint64_t delega, uint64_t s
  */
 uint64_t f24_write(const uint8_t *sheet, size_t sheet_len, uint8_t *room, size_t room_len, uint64_t *answer,
                    size_t answer_len);
+
+/* Starts a judgement by portions: the 53 numbers of its first state stand at the start of state, and those behind them
+ * are as they were. Nothing is written where 100 is returned.
+ */
+uint64_t f24_start(uint64_t *state, size_t state_len);
+
+/* Judges no more records of a flow than the portion, from a state on: that of f24_start, or the one that the call
+ * before it left. The flow must be the same at every call of a judgement. docs/PORTIONS.md has the rules and the numbers
+ * of a state.
+ *
+ * Any portions above zero end in what f24_judge returns for the flow, given by the call that examines the last record
+ * needed. A portion of zero examines nothing, but gives 1 and 2. A state that has ended gives its answer again.
+ *   0       answer[0]            number of records examined, which is all of them
+ *           answer[1] to [14]    the answer of f24_judge
+ *   1 to 20, 26
+ *           answer[0]            number of records examined: that of the refusing record, all with 5, 0 with 1 and 2
+ *           answer[1], [2]       record and position of the refusal
+ *   101     answer[0]            number of records examined so far, which have passed; records are left
+ *   102     answer[0]            0. The state is as it came, and this is no verdict on the flow
+ * Nothing else is written to answer. But for 102 the first 53 numbers of state are the new state. Where 100 is
+ * returned, for either room, neither is touched.
+ */
+uint64_t f24_judge_portion(const uint8_t *flow, size_t flow_len, uint64_t portion, uint64_t *state, size_t state_len,
+                           uint64_t *answer, size_t answer_len);
 
 #ifdef __cplusplus
 }

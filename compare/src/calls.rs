@@ -14,6 +14,14 @@ pub enum Call {
 /// The answer to a call with too little room.
 pub const NO_ROOM: u64 = 100;
 
+/// The answers of a judgement by portions that are no verdict.
+pub const NOT_ENDED: u64 = 101;
+pub const FOREIGN: u64 = 102;
+
+/// How many numbers a state has, and the answer of a judgement by portions.
+pub const STATE_ROOM: usize = 53;
+pub const PORTION_ROOM: usize = 15;
+
 /// Whether an answer is one to the records: lengths, room and bytes that are no
 /// sheet come before them.
 pub fn is_of_records(code: u64) -> bool {

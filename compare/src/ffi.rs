@@ -40,6 +40,16 @@ extern "C" {
         answer: *mut u64,
         answer_len: usize,
     ) -> u64;
+    fn f24_start(state: *mut u64, state_len: usize) -> u64;
+    fn f24_judge_portion(
+        flow: *const u8,
+        flow_len: usize,
+        portion: u64,
+        state: *mut u64,
+        state_len: usize,
+        answer: *mut u64,
+        answer_len: usize,
+    ) -> u64;
 }
 
 /// Makes a call on a flow and lets the library write its answer into the room.
@@ -69,6 +79,22 @@ pub fn write(sheet: &[u8], room: &mut [u8], answer: &mut [u64]) -> u64 {
     unsafe { f24_write(sheet.as_ptr(), sheet.len(), room.as_mut_ptr(), room.len(), answer.as_mut_ptr(), answer.len()) }
 }
 
+/// Lets the library write the first state of a judgement by portions.
+#[cfg(not(stand_in))]
+pub fn start(state: &mut [u64]) -> u64 {
+    // SAFETY: the pointer is to a slice of this length, lent for the call alone.
+    unsafe { f24_start(state.as_mut_ptr(), state.len()) }
+}
+
+/// Lets the library judge a portion and write the new state and its answer.
+#[cfg(not(stand_in))]
+pub fn judge_portion(flow: &[u8], portion: u64, state: &mut [u64], answer: &mut [u64]) -> u64 {
+    let (numbers, length) = (state.as_mut_ptr(), state.len());
+    // SAFETY: the three pointers are to slices of these lengths, lent for the
+    // call alone and apart from one another; the library asks nothing else.
+    unsafe { f24_judge_portion(flow.as_ptr(), flow.len(), portion, numbers, length, answer.as_mut_ptr(), answer.len()) }
+}
+
 /// A build with `--cfg stand_in` links no library: the reference takes its
 /// place, and nothing is compared but the reference with itself.
 #[cfg(stand_in)]
@@ -82,4 +108,14 @@ pub fn call(call: &Call, flow: &mut [u8], room: &mut [u64]) -> u64 {
 #[cfg(stand_in)]
 pub fn write(sheet: &[u8], room: &mut [u8], answer: &mut [u64]) -> u64 {
     crate::rival::write(sheet, room, answer)
+}
+
+#[cfg(stand_in)]
+pub fn start(state: &mut [u64]) -> u64 {
+    crate::rival::start(state)
+}
+
+#[cfg(stand_in)]
+pub fn judge_portion(flow: &[u8], portion: u64, state: &mut [u64], answer: &mut [u64]) -> u64 {
+    crate::rival::judge_portion(flow, portion, state, answer)
 }

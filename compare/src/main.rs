@@ -15,16 +15,22 @@ mod dates;
 mod delega_vectors;
 mod endings;
 mod ffi;
+mod forged;
 mod frames;
 mod heads;
 mod lent;
 mod lines;
+mod passed;
 mod payers;
+mod portion;
+mod portion_vectors;
 mod probe;
 mod quick;
 mod report;
 mod rival;
 mod rng;
+mod series;
+mod series_sorts;
 mod sevens;
 mod sheet;
 mod sheet_damage;
@@ -52,19 +58,23 @@ use std::process::ExitCode;
 use writing::Writings;
 
 const USAGE: &str = "usage:
-  compare SEED FLOWS CORRECTIONS [SHEETS]    compares so many random cases
-  compare again SEED KIND INDEX              compares one of these once more; KIND is flow, correction or sheet
+  compare SEED FLOWS CORRECTIONS [SHEETS [SERIES]]
+                                             compares so many random cases; SERIES is 200000 where it is not given
+  compare again SEED KIND INDEX              compares one of these once more; KIND is flow, correction, sheet or series
   compare dates                              compares every six digits as the date of a flow and of a sheet
   compare codes FILE                         compares every last character behind the tax codes' beginnings of a file
   compare frames FILE..                      compares the flows of framed files
   compare files FILE..                       compares files, a flow each
   compare sheets FILE..                      compares files, a sheet each
+  compare portions FILE..                    compares files, a flow each, judged by portions
   compare seeds SEED COUNT FOLDER            writes small random flows, a file each, for a fuzzer to start from
   compare vectors SEED COUNT FLOWS STDOUT    writes random flows with the reference's answers
   compare vectors sheets SEED COUNT DATA STDOUT
                                              writes random sheets with the reference's answers
   compare vectors deleghe SEED COUNT DATA STDOUT
                                              writes random calls for one delega with the reference's answers
+  compare vectors portions SEED COUNT DATA STDOUT
+                                             writes random judgements by portions with the reference's answers
 The first difference goes to the folder that COMPARE_FOLDER names, or to 'difference'.";
 
 /// Fewest times that each answer must come up in a full run.
@@ -78,6 +88,7 @@ pub enum Failure {
     Io(String),
     Differs(String, Box<Difference>),
     SheetDiffers(String, Box<writing::Difference>),
+    SeriesDiffers(String, Box<portion::Difference>),
     /// An answer that came up too seldom for the run to say much.
     Seldom,
 }
@@ -105,6 +116,10 @@ fn main() -> ExitCode {
             eprintln!("\nDIFFERENCE in what is written from a sheet");
             shown(&case, difference.write(&folder(), &case))
         }
+        Err(Failure::SeriesDiffers(case, difference)) => {
+            eprintln!("\nDIFFERENCE in a judgement by portions");
+            shown(&case, difference.write(&folder(), &case))
+        }
     }
 }
 
@@ -124,6 +139,7 @@ fn run(words: &[&str]) -> Result<(), Failure> {
         ["frames", ref files @ ..] if !files.is_empty() => compare_frames(files),
         ["files", ref files @ ..] if !files.is_empty() => compare_files(files),
         ["sheets", ref files @ ..] if !files.is_empty() => sheets::compare_files(files),
+        ["portions", ref files @ ..] if !files.is_empty() => series::compare_files(files),
         ["seeds", seed, count, folder] => seeds(number(seed)?, number(count)?, Path::new(folder)),
         ["vectors", "sheets", seed, count, data, stdout] => {
             sheet_vectors::write(number(seed)?, number(count)?, data, stdout)
@@ -133,12 +149,21 @@ fn run(words: &[&str]) -> Result<(), Failure> {
             delega_vectors::write(number(seed)?, number(count)?, data, stdout)
                 .map_err(|error| Failure::Io(error.to_string()))
         }
+        ["vectors", "portions", seed, count, data, stdout] => {
+            portion_vectors::write(number(seed)?, number(count)?, data, stdout)
+                .map_err(|error| Failure::Io(error.to_string()))
+        }
         ["vectors", seed, count, flows, stdout] => {
             vectors::write(number(seed)?, number(count)?, flows, stdout).map_err(|error| Failure::Io(error.to_string()))
         }
-        [seed, flows, corrections] => compare(number(seed)?, number(flows)?, number(corrections)?, 0),
+        [seed, flows, corrections] => {
+            compare(number(seed)?, [number(flows)?, number(corrections)?, 0, series::FULL])
+        }
         [seed, flows, corrections, sheets] => {
-            compare(number(seed)?, number(flows)?, number(corrections)?, number(sheets)?)
+            compare(number(seed)?, [number(flows)?, number(corrections)?, number(sheets)?, series::FULL])
+        }
+        [seed, flows, corrections, sheets, series] => {
+            compare(number(seed)?, [number(flows)?, number(corrections)?, number(sheets)?, number(series)?])
         }
         _ => Err(Failure::Usage),
     }
@@ -152,12 +177,13 @@ fn folder() -> PathBuf {
     PathBuf::from(std::env::var_os("COMPARE_FOLDER").unwrap_or_else(|| "difference".into()))
 }
 
-fn compare(seed: u64, flows: u64, corrections: u64, sheets: u64) -> Result<(), Failure> {
-    let what = if sheets == 0 {
-        format!("{flows} flows and {corrections} corrections")
-    } else {
-        format!("{flows} flows, {corrections} corrections and {sheets} sheets")
-    };
+fn compare(seed: u64, [flows, corrections, sheets, many]: [u64; 4]) -> Result<(), Failure> {
+    let mut what = format!("{flows} flows, {corrections} corrections");
+    for (count, name) in [(sheets, "sheets"), (many, "series")] {
+        if count > 0 {
+            what += &format!(", {count} {name}");
+        }
+    }
     println!("seed {seed}: {what}, the {} with the reference", ffi::NAME);
     trap::set();
     let pool = Pool::new(seed);
@@ -186,12 +212,14 @@ fn compare(seed: u64, flows: u64, corrections: u64, sheets: u64) -> Result<(), F
         sheets::case(&mut writings, &pool, seed, index)?;
         progress(index, sheets, "sheets");
     }
+    let series = series::compare(&pool, seed, many)?;
 
     comparer.tally.print();
     shapes.print();
     if sheets > 0 {
         writings.tally.print();
     }
+    series.print(many);
     let judged = (0..=20).chain([26]).map(|way| (comparer.tally.of(0, way), format!("judge {way}"))).min();
     let corrected =
         [0, 9, 14, 21, 22, 23].iter().map(|&way| (comparer.tally.of(3, way), format!("correct {way}"))).min();
@@ -221,6 +249,8 @@ fn compare(seed: u64, flows: u64, corrections: u64, sheets: u64) -> Result<(), F
     }
     if seldom {
         eprintln!("compare: an answer came up fewer than {FEWEST} times");
+    }
+    if series.is_seldom(many) || seldom {
         return Err(Failure::Seldom);
     }
     println!("no difference");
@@ -524,6 +554,7 @@ fn again(seed: u64, kind: &str, index: u64) -> Result<(), Failure> {
             correction_case(&mut comparer, &pool, (seed, index), u64::MAX, &mut shapes)
         }
         "sheet" => return sheets::again(&pool, seed, index),
+        "series" => return series::again(&pool, seed, index),
         _ => return Err(Failure::Usage),
     };
     compared.map_err(|difference| differs(seed, kind, index, difference))?;

@@ -1,7 +1,7 @@
 //! The reference, answering as include/f24.h says that the library does.
 
-use crate::calls::{Call, NO_ROOM, SUMS};
-use reference::Refusal;
+use crate::calls::{Call, FOREIGN, NOT_ENDED, NO_ROOM, PORTION_ROOM, STATE_ROOM, SUMS};
+use reference::{Answer, Refusal, State, Summary};
 
 /// Makes a call on a flow and writes its answer into the room.
 pub fn call(call: &Call, flow: &mut [u8], room: &mut [u64]) -> u64 {
@@ -11,11 +11,7 @@ pub fn call(call: &Call, flow: &mut [u8], room: &mut [u64]) -> u64 {
     let refusal = match *call {
         Call::Judge => match reference::judge(flow) {
             Ok(summary) => {
-                room[0] = summary.deleghe;
-                room[1] = summary.records as u64;
-                room[2] = summary.total;
-                room[3] = summary.lines;
-                put_sums(&mut room[SUMS..], &summary.sums);
+                put_summary(room, &summary);
                 return 0;
             }
             Err(refusal) => refusal,
@@ -70,6 +66,51 @@ pub fn write(sheet: &[u8], room: &mut [u8], answer: &mut [u64]) -> u64 {
             u64::from(number)
         }
     }
+}
+
+/// Writes the first state of a judgement by portions.
+pub fn start(state: &mut [u64]) -> u64 {
+    if state.len() < STATE_ROOM {
+        return NO_ROOM;
+    }
+    state[..STATE_ROOM].copy_from_slice(&State::start().numbers());
+    0
+}
+
+/// Judges a portion and writes the new state and the answer.
+pub fn judge_portion(flow: &[u8], portion: u64, state: &mut [u64], answer: &mut [u64]) -> u64 {
+    if state.len() < STATE_ROOM || answer.len() < PORTION_ROOM {
+        return NO_ROOM;
+    }
+    let mut numbers = [0; STATE_ROOM];
+    numbers.copy_from_slice(&state[..STATE_ROOM]);
+    let answered = reference::judge_portion(flow, portion, &State::of(&numbers));
+    answer[0] = answered.examined;
+    if answered.answer != Answer::Foreign {
+        state[..STATE_ROOM].copy_from_slice(&answered.state.numbers());
+    }
+    match answered.answer {
+        Answer::NotEnded => NOT_ENDED,
+        Answer::Foreign => FOREIGN,
+        Answer::Ended(Ok(summary)) => {
+            put_summary(&mut answer[1..], &summary);
+            0
+        }
+        Answer::Ended(Err(Refusal { number, record, position })) => {
+            answer[1] = record as u64;
+            answer[2] = position as u64;
+            u64::from(number)
+        }
+    }
+}
+
+/// Writes the summary of a flow.
+fn put_summary(room: &mut [u64], summary: &Summary) {
+    room[0] = summary.deleghe;
+    room[1] = summary.records as u64;
+    room[2] = summary.total;
+    room[3] = summary.lines;
+    put_sums(&mut room[SUMS..], &summary.sums);
 }
 
 /// Writes the five sections' sums, debit and credit in turn.

@@ -9,6 +9,7 @@ pub const SHEET: u64 = 3;
 pub const DATE: u64 = 4;
 pub const LINE: u64 = 5;
 pub const ROOM: u64 = 6;
+pub const SERIES: u64 = 7;
 
 static KIND: AtomicU64 = AtomicU64::new(0);
 static SEED: AtomicU64 = AtomicU64::new(0);
@@ -43,6 +44,7 @@ extern "C" fn trapped(number: i32) {
     say(match KIND.load(Relaxed) {
         FLOW => b": flow ",
         SHEET => b": sheet ",
+        SERIES => b": series ",
         DATE => b": date ",
         LINE => b": line ",
         ROOM => b": rooms of every length, call ",
@@ -52,7 +54,7 @@ extern "C" fn trapped(number: i32) {
     if !matches!(KIND.load(Relaxed), DATE | LINE | ROOM) {
         say(b" of seed ");
         say_number(SEED.load(Relaxed));
-        say(b" (once more: again SEED flow|correction|sheet INDEX)");
+        say(b" (once more: again SEED flow|correction|sheet|series INDEX)");
     }
     say(b"\n");
     // SAFETY: ends the program.

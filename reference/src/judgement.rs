@@ -57,16 +57,22 @@ pub struct Usage {
 }
 
 /// The state after the records judged so far.
+#[derive(Clone, Copy, Debug)]
 pub struct Judgement {
     pub step: Step,
     pub records: usize,
     pub deleghe: u64,
-    /// Lines of the open section.
+    /// Lines of the open section. Its balance record and a 20, behind which
+    /// sections come, set them to zero.
     pub lines: u64,
     /// Debit and credit of the last line.
     pub amounts: (u64, u64),
-    /// Section sums of the open delega.
+    /// Debits and credits of the open delega, over its sections.
+    pub open: (u64, u64),
+    /// Section sums of the open delega. Both are zeros once it is paid.
     pub delega: Sums,
+    /// Section sums of the delega whose 50-01 passed last.
+    pub paid: Sums,
     /// Lines and sections of the open delega.
     pub usage: Usage,
     /// Section sums over the flow.
@@ -75,8 +81,8 @@ pub struct Judgement {
     pub flow_lines: u64,
     /// Sum of the final balances.
     pub total: u64,
-    /// The head's support name.
-    name: [u8; NAME_WIDTH],
+    /// The head's support name, as record 1 has it.
+    pub name: Name,
 }
 
 impl Judgement {
@@ -87,18 +93,23 @@ impl Judgement {
             deleghe: 0,
             lines: 0,
             amounts: (0, 0),
+            open: (0, 0),
             delega: Sums::default(),
+            paid: Sums::default(),
             usage: Usage::default(),
             flow: Sums::default(),
             flow_lines: 0,
             total: 0,
-            name: [b' '; NAME_WIDTH],
+            name: Name::default(),
         }
     }
 
     /// Judges the next record.
     #[inline]
     pub fn take(&mut self, record: &Record) -> Result<(), Fault> {
+        if self.records == 0 {
+            self.name = name(record);
+        }
         self.records += 1;
         characters(record)?;
         self.step = next(self.step, record)?;
@@ -113,6 +124,7 @@ impl Judgement {
             // "of these two only type, number, subtype and characters are
             // judged"; of a 20 no other field is numeric either.
             Step::Domicile | Step::Receipt | Step::Addressee => {
+                self.lines = 0;
                 let number = count(record, DELEGA)?;
                 self.open_delega(number)
             }
@@ -123,8 +135,7 @@ impl Judgement {
         let date = six(record, DATE).ok_or(fault(7, DATE))?;
 
         // "No "/" and no ":" in it"
-        self.name = name(record);
-        let breaks_rule = self.name.iter().any(|byte| matches!(byte, b'/' | b':'));
+        let breaks_rule = name(record).iter().any(|byte| matches!(byte, b'/' | b':'));
         ensure(!breaks_rule, 16, NAME)?;
 
         // Document 02: "A date is valid only if the day exists in that month".
@@ -143,6 +154,7 @@ impl Judgement {
         ensure(codes::valid(&code(record)), 26, CODE)?;
 
         // "Sums start at zero for every delega.", and so does what it uses.
+        self.open = (0, 0);
         self.delega = Sums::default();
         self.usage = Usage::default();
         Ok(())
@@ -163,9 +175,14 @@ impl Judgement {
         }
 
         self.amounts = (debit, credit);
-        let sums = &mut self.delega[index];
-        sums.0 += debit;
-        sums.1 += credit;
+        for sums in [
+            &mut self.open,
+            &mut self.delega[index],
+            &mut self.flow[index],
+        ] {
+            sums.0 += debit;
+            sums.1 += credit;
+        }
         self.flow_lines += 1;
         self.usage.lines += 1;
         self.usage.set |= 1 << index;
@@ -195,17 +212,14 @@ impl Judgement {
         let stored_sign = record[section.sign_at - 1];
         ensure(stored_sign == sign(debits, credits), 12, section.sign_at)?;
         ensure(balance == debits.abs_diff(credits), 13, section.balance_at)?;
-        self.close_section(index);
+        self.close_section();
         Ok(())
     }
 
     /// The section's balance record has passed.
-    pub fn close_section(&mut self, index: usize) {
-        let (debits, credits) = self.delega[index];
+    pub fn close_section(&mut self) {
         self.lines = 0;
         self.usage.size += 1;
-        self.flow[index].0 += debits;
-        self.flow[index].1 += credits;
     }
 
     fn payment(&mut self, record: &Record) -> Result<(), Fault> {
@@ -216,13 +230,23 @@ impl Judgement {
         let due = self.due()?;
         ensure(stored == due, 15, FINAL_BALANCE)?;
 
-        self.total += due;
+        self.close_delega(due);
         Ok(())
     }
 
-    /// The open delega's final balance: "Zero is allowed, negative is not."
+    /// The open delega's final balance: "all its debits less all its credits.
+    /// Zero is allowed, negative is not."
     pub fn due(&self) -> Result<u64, Fault> {
-        final_balance(&self.delega).ok_or(fault(14, TYPE))
+        let (debits, credits) = self.open;
+        debits.checked_sub(credits).ok_or(fault(14, TYPE))
+    }
+
+    /// The 50-01 has passed, with this final balance.
+    pub fn close_delega(&mut self, due: u64) {
+        self.total += due;
+        self.paid = self.delega;
+        self.open = (0, 0);
+        self.delega = Sums::default();
     }
 
     /// "number of deleghe, number of records with head and tail (EF's own
@@ -313,7 +337,7 @@ fn line_among(mut sections: Range<usize>, subtype: [u8; 2]) -> Option<Step> {
         .map(Step::Line)
 }
 
-fn name(record: &Record) -> [u8; NAME_WIDTH] {
+fn name(record: &Record) -> Name {
     let mut name = [0; NAME_WIDTH];
     name.copy_from_slice(&record[NAME - 1..NAME - 1 + NAME_WIDTH]);
     name

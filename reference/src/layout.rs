@@ -32,6 +32,9 @@ pub const DATE: usize = 14;
 pub const NAME: usize = 20;
 pub const NAME_WIDTH: usize = 20;
 
+/// A support name.
+pub type Name = [u8; NAME_WIDTH];
+
 /// 50-01: final balance at 36-50; no sign is printed there.
 pub const FINAL_BALANCE: usize = 36;
 

@@ -1,8 +1,8 @@
 //! A judge for CBI F24 payment flows, after the rules of document 01, with
 //! the columns of CBI-F24-001. Words in quotation marks are those rules'. The
 //! writer of flows from working sheets is after document 02, and so are the
-//! position of refusal 7 and the date rule, which 02 amends, refusal 26, and
-//! the lines and sections of a summary.
+//! position of refusal 7 and the date rule, which 02 amends, refusal 26, the
+//! lines and sections of a summary, and the judge by portions.
 //!
 //! Every input is taken, of every length and value. Sums can't overflow: a
 //! flow has at most 546 records with amounts below 10^15.
@@ -10,8 +10,13 @@
 mod codes;
 mod dates;
 mod digits;
+#[cfg(test)]
+mod foreign_tests;
 mod judgement;
 mod layout;
+#[cfg(test)]
+mod portion_tests;
+mod portions;
 #[cfg(test)]
 mod sheet_tests;
 mod sheets;
@@ -21,6 +26,7 @@ mod tests;
 use digits::{non_digit, write_fifteen};
 use judgement::{Fault, Judgement, Step, Usage};
 use layout::*;
+pub use portions::{judge_portion, Answer, Answered, State, STATE_NUMBERS};
 pub use sheets::write;
 // The comparison asks for more of a refusal than the command line.
 #[allow(unused_imports)]
@@ -192,24 +198,44 @@ pub fn correct(
 }
 
 /// Judges a flow in one pass and lets `watch` see the state after each record.
-fn judge_watched(flow: &[u8], mut watch: impl FnMut(&Judgement)) -> Result<Summary, Refusal> {
-    // "Refusals 1 and 2 come first."
+fn judge_watched(flow: &[u8], watch: impl FnMut(&Judgement)) -> Result<Summary, Refusal> {
+    length(flow)?;
+    let mut judgement = Judgement::new();
+    take_all(&mut judgement, flow, watch)?;
+    ended(&judgement)
+}
+
+/// "Refusals 1 and 2 come first."
+fn length(flow: &[u8]) -> Result<(), Refusal> {
     if flow.len() > MOST_BYTES {
         return Err(Refusal::nowhere(1));
     }
     if flow.is_empty() || flow.len() % RECORD != 0 {
         return Err(Refusal::nowhere(2));
     }
+    Ok(())
+}
 
-    let mut judgement = Judgement::new();
-    for record in flow.chunks_exact(RECORD) {
+/// Goes on with the judgement over these whole records, up to the first that is
+/// refused, and lets `watch` see the state after each that passes.
+#[inline]
+fn take_all(
+    judgement: &mut Judgement,
+    records: &[u8],
+    mut watch: impl FnMut(&Judgement),
+) -> Result<(), Refusal> {
+    for record in records.chunks_exact(RECORD) {
         let record: &Record = record.try_into().expect("a chunk is a record long");
         judgement
             .take(record)
             .map_err(|fault| Refusal::of(fault, judgement.records, record))?;
-        watch(&judgement);
+        watch(judgement);
     }
+    Ok(())
+}
 
+/// The answer once the last record has passed.
+fn ended(judgement: &Judgement) -> Result<Summary, Refusal> {
     // "Refusal 5 comes after all records have passed."
     if judgement.step != Step::Tail {
         return Err(Refusal {
@@ -280,16 +306,16 @@ fn locate(
     Ok((summary, located))
 }
 
-/// The open delega's summary, or `None` if its balance is negative.
+/// The summary of the delega whose 50-01 has just passed.
 fn delega_summary(judgement: &Judgement) -> Option<DelegaSummary> {
     let Usage { lines, set, size } = judgement.usage;
     debug_assert_eq!(u64::from(set.count_ones()), size);
     Some(DelegaSummary {
-        final_balance: final_balance(&judgement.delega)?,
+        final_balance: final_balance(&judgement.paid)?,
         lines,
         set,
         size,
-        sums: judgement.delega,
+        sums: judgement.paid,
     })
 }
 

@@ -2,6 +2,7 @@
 
 #[path = "lib.rs"]
 mod f24;
+mod portion_cases;
 
 use f24::{DelegaSummary, Refusal, Summary};
 use std::ffi::OsString;
@@ -11,12 +12,14 @@ use std::process::ExitCode;
 
 const USAGE: &str = "usage:
   reference judge [FILE|-]
+  reference portion FILE PORTION
   reference delega FILE NUMBER
   reference find FILE DELEGA SUBTYPE PLACE
   reference correct FILE DELEGA SUBTYPE PLACE DEBIT CREDIT [OUT]
   reference write SHEET [OUT]
   reference batch FILE
-  reference sheets FILE";
+  reference sheets FILE
+  reference portions FILE";
 
 /// "reads standard input, up to 65,521 bytes": one more than a flow may have.
 const MOST_READ: u64 = 65_521;
@@ -48,6 +51,10 @@ fn run(words: &[&str], out: &mut impl Write) -> io::Result<()> {
     match *words {
         ["judge"] => print_judgement(out, f24::judge(&read_flow("-")?)),
         ["judge", file] => print_judgement(out, f24::judge(&read_flow(file)?)),
+        ["portion", file, portion] => {
+            let portion = number(portion)?;
+            portion_cases::series(out, &read_flow(file)?, portion)
+        }
         ["delega", file, delega] => {
             let delega = number(delega)?;
             print_delega(out, delega, f24::delega(&read_flow(file)?, delega))
@@ -69,6 +76,7 @@ fn run(words: &[&str], out: &mut impl Write) -> io::Result<()> {
         ["write", sheet, to] => write(out, sheet, to),
         ["batch", file] => batch(out, &read(file, u64::MAX)?),
         ["sheets", file] => sheets(out, &read(file, u64::MAX)?),
+        ["portions", file] => portion_cases::answer(out, &read(file, u64::MAX)?),
         _ => Err(io::Error::new(io::ErrorKind::InvalidInput, USAGE)),
     }
 }

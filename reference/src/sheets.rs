@@ -184,13 +184,13 @@ impl Writer {
             Step::Line(index) => judgement.line(index, record)?,
             Step::Balance(index) => {
                 self.fits &= store_balance(&SECTIONS[index], judgement.delega[index], record);
-                judgement.close_section(index);
+                judgement.close_section();
             }
             Step::Payment => {
                 let due = judgement.due()?;
                 self.fits &= due <= MOST_AMOUNT;
                 write_fifteen(record, FINAL_BALANCE, due);
-                judgement.total += due;
+                judgement.close_delega(due);
             }
             _ => (),
         }
