@@ -1,9 +1,9 @@
 -- Believed. What the linkable library returns, and what it leaves in the memory that it is lent.
 use Prim.Native.Nat.{ℕ}
 use mathlib.Core.Bool.{cond}
-use mathlib.Core.List.{List, [], _∷_, _++_}
+use mathlib.Core.List.{List, [], _∷_}
 use lib.Dec.{eqb, ltb}
-use lib.ListN.{length, drop}
+use lib.ListN.{length}
 use Rattle.state.specs.Numbers.{overlay, sumsNumbers}
 use Rattle.judge.specs.declared.Summary.{Summary}
 use Rattle.judge.specs.Refusal.{Refusal, refusalOf}

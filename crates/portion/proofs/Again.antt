@@ -1,20 +1,19 @@
 -- What a call hands back passes the bounds again, so that the next call goes on from it or gives its answer again.
 use Prim.Native.Nat.{ℕ, _+_, _-_, _*_, _/_, _<_, _≤_}
-use mathlib.Core.Path.{_≡_, refl, sym, ap, _∙_}
+use mathlib.Core.Path.{_≡_, refl, ap, _∙_}
 use mathlib.Core.Bool.{Bool, true, false, cond}
-use mathlib.Core.List.{List, [], _∷_, _++_}
+use mathlib.Core.List.{List, [], _++_}
 use native.Mathlib.Omega.{arith}
 use native.Mathlib.Decide.{decLe}
-use borrow.Author.Tests.{lt-ltb, le-ltb, le-leb, lt-leb, eq-eqb, ne-eqb}
+use borrow.Author.Tests.{le-ltb, le-leb, lt-leb, eq-eqb, ne-eqb}
 use lib.Dec.{eqb, ltb, leb}
-use lib.ListN.{length, take, drop, getD}
+use lib.ListN.{length, take}
 use Rattle.text.proofs.Tests.{either-way}
 use Rattle.amounts.specs.declared.Outcome.{Outcome}
 use Rattle.amounts.specs.declared.Outcome.the-variants.{Pass, Fault}
 use Rattle.amounts.specs.declared.Sums.{Sums}
 use Rattle.order.specs.Stages.{afterTail}
 use Rattle.rules.specs.declared.State.{State}
-use Rattle.rules.specs.State.{noSums}
 use Rattle.rules.specs.Bounds.{SumsBelow, StateBelow}
 use Rattle.state.specs.Numbers.{sumsNumbers, stateNumbers, stateOf}
 use Rattle.state.proofs.Rooms.{five-sums, kept-back}
@@ -22,11 +21,11 @@ use Rattle.judge.specs.Flow.{refusedWith, acceptedWith, closing, restOf}
 use Rattle.judge.specs.Run.{Run, ran}
 use Rattle.judge.proofs.ChecksInOrder.{Numbered}
 use Rattle.portion.specs.declared.Course.{Course}
-use Rattle.portion.specs.declared.Course.the-variants.{Going, Accepted, Refused, Foreign}
+use Rattle.portion.specs.declared.Course.the-variants.{Going}
 use Rattle.portion.specs.declared.Progress.{Progress}
 use Rattle.portion.specs.Portion.{endedBy, refusable, courseRight, atMost, sumsRight, possible, heldName, courseAfter, allowed, examining, wentOn, refusedNow}
 use Rattle.portion.specs.Inner.{lastOf, Goes}
-use Rattle.portion.proofs.Counts.{Counts, counts-so}
+use Rattle.portion.proofs.Counts.{counts-so}
 use Rattle.portion.proofs.Sound.{Sound, possible-says}
 use Rattle.portion.proofs.Reach.{Stands, last-within, allowed-rest, allowed-length, ran-stands}
 use Rattle.portion.proofs.Stays.{Stays, part-whole, ran-stays, ran-numbered}

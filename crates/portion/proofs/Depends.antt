@@ -1,5 +1,5 @@
 -- What a call may depend on: "From the same state and portion, two flows of one length that agree in the records the call examines get the same answer and the same new state".
-use Prim.Native.Nat.{ℕ, zero, suc, _+_, _-_, _*_, _/_, _%_, _<_, _≤_}
+use Prim.Native.Nat.{ℕ, _+_, _-_, _*_, _/_, _<_, _≤_}
 use mathlib.Core.Path.{_≡_, refl, sym, ap, ap₂, _∙_}
 use mathlib.Core.Bool.{Bool, true, false}
 use mathlib.Core.List.{List, [], _∷_}
@@ -23,8 +23,7 @@ use Rattle.judge.proofs.FirstFault.Sized.{long, none, ragged, whole}
 use Rattle.portion.specs.declared.Course.{Course}
 use Rattle.portion.specs.declared.Course.the-variants.{Going, Accepted, Refused, Foreign}
 use Rattle.portion.specs.declared.Progress.{Progress}
-use Rattle.portion.specs.declared.Portion.{Portion}
-use Rattle.portion.specs.Portion.{told, foreign, possible, heldName, courseAfter, allowed, examining, wentOn, refusedNow, goneOn, portioned}
+use Rattle.portion.specs.Portion.{told, possible, heldName, courseAfter, allowed, examining, wentOn, portioned}
 use Rattle.portion.specs.Series.{oneMore, steps}
 use Rattle.portion.specs.Inner.{lastOf}
 use Rattle.portion.proofs.Reach.{drop-take, chunks-take, take-chunks, allowed-length, last-within, last-some}

@@ -1,13 +1,13 @@
 -- How many records a call examines: as many as its definition steps over, never more than it is allowed, never more than 546 in all.
-use Prim.Native.Nat.{ℕ, zero, suc, _+_, _-_, _*_, _/_, _%_, _<_, _≤_}
-use mathlib.Core.Path.{_≡_, refl, sym, ap, ap₂, _∙_}
+use Prim.Native.Nat.{ℕ, suc, _+_, _/_, _<_, _≤_}
+use mathlib.Core.Path.{_≡_, refl, sym, ap, _∙_}
 use mathlib.Core.Bool.{Bool, true, false, cond, false≢true}
 use mathlib.Core.List.{List, [], _∷_}
 use native.Mathlib.Omega.{arith}
 use native.Mathlib.Decide.{decLt, ℕ-discrete}
-use borrow.Author.Tests.{lt-ltb, le-ltb, eq-eqb, ne-eqb, eqb-true, ltb-true, leb-true}
+use borrow.Author.Tests.{eq-eqb, ne-eqb, eqb-true, leb-true}
 use lib.Dec.{eqb, ltb, leb}
-use lib.ListN.{length, take, length-take}
+use lib.ListN.{length, take}
 use Rattle.text.proofs.Tests.{both-true}
 use Rattle.amounts.specs.declared.Outcome.{Outcome}
 use Rattle.amounts.specs.declared.Outcome.the-variants.{Pass, Fault}
@@ -15,7 +15,7 @@ use Rattle.order.specs.Stages.{afterTail}
 use Rattle.rules.specs.declared.State.{State}
 use Rattle.rules.specs.Checks.{fault}
 use Rattle.rules.specs.Step.{next}
-use Rattle.state.specs.Numbers.{stateNumbers, stateOf}
+use Rattle.state.specs.Numbers.{stateOf}
 use Rattle.judge.specs.Flow.{refusedWith, acceptedWith, closing, restOf}
 use Rattle.judge.specs.Plain.{Whole}
 use Rattle.judge.specs.Run.{Run, stopped, ran}
@@ -25,13 +25,13 @@ use Rattle.portion.specs.declared.Course.{Course}
 use Rattle.portion.specs.declared.Course.the-variants.{Going, Accepted, Refused, Foreign}
 use Rattle.portion.specs.declared.Progress.{Progress}
 use Rattle.portion.specs.declared.Portion.{Portion}
-use Rattle.portion.specs.Portion.{endedBy, examinedBy, told, refusable, courseRight, possible, heldName, courseAfter, allowed, examining, wentOn, goneOn, portioned}
-use Rattle.portion.specs.Inner.{lastOf, Goes}
+use Rattle.portion.specs.Portion.{endedBy, examinedBy, told, refusable, courseRight, possible, heldName, courseAfter, allowed, examining, wentOn, portioned}
+use Rattle.portion.specs.Inner.{Goes}
 use Rattle.portion.specs.Series.{oneMore, steps}
 use Rattle.portion.proofs.Sound.{possible-says, sound-goes}
 use Rattle.portion.proofs.Reach.{allowed-length, last-within}
 use Rattle.portion.proofs.Stays.{ran-numbered}
-use Rattle.portion.proofs.Again.{reaches, now-back}
+use Rattle.portion.proofs.Again.{now-back}
 use Rattle.portion.proofs.Portions.{went, went-none}
 use Rattle.portion.proofs.Ways as way
 

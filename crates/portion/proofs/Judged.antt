@@ -1,12 +1,12 @@
 -- From the start, a call whose portion reaches the last record that is needed gives the judgement, and no smaller one does.
-use Prim.Native.Nat.{ℕ, zero, suc, _+_, _-_, _*_, _/_, _%_, _<_, _≤_}
+use Prim.Native.Nat.{ℕ, zero, suc, _+_, _-_, _*_, _/_, _<_, _≤_}
 use mathlib.Core.Path.{_≡_, refl, sym, ap, ap₂, _∙_}
 use mathlib.Core.Bool.{Bool, true, false, cond}
-use mathlib.Core.List.{List, [], _∷_}
+use mathlib.Core.List.{List, []}
 use mathlib.Core.Logic.{_⊎_, inl, inr, ⊎-elim}
 use native.Mathlib.Omega.{arith}
 use native.Mathlib.Decide.{decLt, ℕ-discrete}
-use borrow.Author.Tests.{lt-ltb, le-ltb, eq-eqb, ne-eqb}
+use borrow.Author.Tests.{lt-ltb, le-ltb, ne-eqb}
 use lib.Dec.{eqb}
 use lib.ListN.{length, take, drop, drop-of-length-le}
 use lib.Seq.{take-all}
@@ -16,22 +16,17 @@ use Rattle.order.specs.Stages.{afterTail}
 use Rattle.rules.specs.declared.State.{State}
 use Rattle.rules.specs.State.{startState}
 use Rattle.state.specs.Numbers.{sumsNumbers, stateNumbers, sumsAt, stateOf}
-use Rattle.judge.specs.declared.Verdict.{Verdict}
-use Rattle.judge.specs.declared.Summary.{Summary}
 use Rattle.judge.specs.declared.Judgement.{Judgement}
-use Rattle.judge.specs.Flow.{noSummary, refusedWith, acceptedWith, closing, after, restOf, headNameOf, judged}
+use Rattle.judge.specs.Flow.{refusedWith, acceptedWith, closing, after, restOf, headNameOf, judged}
 use Rattle.judge.specs.Plain.{Whole}
 use Rattle.judge.specs.Run.{Run, ran, answerOf}
 use Rattle.judge.proofs.Records.{length-chunks}
 use Rattle.judge.proofs.Turn.{judged-ran, judged-from-start, judged-long, judged-empty, judged-ragged}
 use Rattle.judge.proofs.FirstFault.{Sized, sized}
 use Rattle.judge.proofs.FirstFault.Sized.{long, none, ragged, whole}
-use Rattle.judge.proofs.ChecksInOrder.{Numbered}
-use Rattle.portion.specs.declared.Course.{Course}
-use Rattle.portion.specs.declared.Course.the-variants.{Going, Accepted, Refused, Foreign}
-use Rattle.portion.specs.declared.Progress.{Progress}
+use Rattle.portion.specs.declared.Course.the-variants.{Going}
 use Rattle.portion.specs.declared.Portion.{Portion}
-use Rattle.portion.specs.Portion.{startProgress, endedBy, examinedBy, summaryBy, told, atMost, countsRight, sumsRight, possible, heldName, courseAfter, examining, wentOn, refusedNow, goneOn, portioned}
+use Rattle.portion.specs.Portion.{startProgress, endedBy, examinedBy, summaryBy, told, atMost, countsRight, sumsRight, possible, heldName, courseAfter, examining, refusedNow, goneOn, portioned}
 use Rattle.portion.specs.Inner.{lastOf, Goes}
 use Rattle.portion.specs.Series.{called, total, needed}
 use Rattle.portion.proofs.Sound.{sound-goes}

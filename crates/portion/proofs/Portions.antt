@@ -1,33 +1,27 @@
 -- Portions one after the other are one: "a larger portion never alters an answer given", and an ended state gives its answer again.
-use Prim.Native.Nat.{ℕ, zero, suc, _+_, _-_, _*_, _/_, _%_, _<_, _≤_}
-use mathlib.Core.Path.{_≡_, refl, sym, ap, ap₂, _∙_}
-use mathlib.Core.Bool.{Bool, true, false, cond}
-use mathlib.Core.List.{List, [], _∷_}
+use Prim.Native.Nat.{ℕ, zero, suc, _+_, _-_, _*_, _/_, _<_, _≤_}
+use mathlib.Core.Path.{_≡_, sym, ap, ap₂, _∙_}
+use mathlib.Core.Bool.{true}
+use mathlib.Core.List.{List, []}
 use native.Mathlib.Omega.{arith}
-use native.Mathlib.Decide.{decLe, decLt, ℕ-discrete}
-use borrow.Author.Tests.{lt-ltb, le-ltb, le-leb, lt-leb, eq-eqb, ne-eqb}
-use lib.Dec.{eqb, ltb}
+use native.Mathlib.Decide.{decLe, ℕ-discrete}
+use borrow.Author.Tests.{lt-ltb, le-leb, lt-leb, eq-eqb, ne-eqb}
 use lib.ListN.{length, take, drop, drop-of-length-le}
-use lib.Seq.{take-all}
 use Rattle.amounts.specs.declared.Outcome.{Outcome}
 use Rattle.amounts.specs.declared.Outcome.the-variants.{Pass, Fault}
 use Rattle.rules.specs.declared.State.{State}
 use Rattle.state.specs.Numbers.{stateNumbers, stateOf}
-use Rattle.judge.specs.Flow.{chunks, restOf, closing}
+use Rattle.judge.specs.Flow.{restOf}
 use Rattle.judge.specs.Run.{Run, ran}
 use Rattle.judge.proofs.Records.{length-chunks}
 use Rattle.portion.specs.declared.Course.{Course}
-use Rattle.portion.specs.declared.Course.the-variants.{Going, Accepted, Refused, Foreign}
+use Rattle.portion.specs.declared.Course.the-variants.{Going}
 use Rattle.portion.specs.declared.Progress.{Progress}
-use Rattle.portion.specs.declared.Portion.{Portion}
-use Rattle.portion.specs.Portion.{endedBy, told, foreign, refusable, possible, heldName, courseAfter, allowed, examining, wentOn, refusedNow, goneOn, unlessEnded, portioned}
+use Rattle.portion.specs.Portion.{possible, heldName, courseAfter, examining, wentOn}
 use Rattle.portion.specs.Inner.{lastOf, Goes}
-use Rattle.portion.specs.Series.{called, total}
-use Rattle.portion.proofs.Sound.{sound-goes}
 use Rattle.portion.proofs.Reach.{Stands, last-within}
 use Rattle.portion.proofs.Split.{resumed, run-on, rest-on}
-use Rattle.portion.proofs.Again.{stood, reaches, now-back, went-sound, refused-sound}
-use Rattle.portion.proofs.Ways.{impossible, by-course, too-long, empty, ragged, more-left, none-left}
+use Rattle.portion.proofs.Again.{stood, now-back}
 
 -- what a call with more than none hands back
 pub went : (s : List ℕ) (p : ℕ) (x : Progress) → (p ≡ 0 → ⊥) →

@@ -1,28 +1,27 @@
 -- Any series of portions is one call with their sum.
-use Prim.Native.Nat.{ℕ, zero, suc, _+_, _-_, _*_, _/_, _%_, _<_, _≤_}
-use mathlib.Core.Path.{_≡_, refl, sym, ap, ap₂, _∙_}
-use mathlib.Core.Bool.{Bool, true, false, cond, false≢true}
+use Prim.Native.Nat.{ℕ, _+_, _/_, _<_, _≤_}
+use mathlib.Core.Path.{_≡_, refl, sym, ap, _∙_}
+use mathlib.Core.Bool.{Bool, true, false}
 use mathlib.Core.List.{List, [], _∷_}
 use native.Mathlib.Omega.{arith}
 use native.Mathlib.Decide.{decLt, ℕ-discrete}
-use borrow.Author.Tests.{lt-ltb, le-ltb, eq-eqb, ne-eqb}
+use borrow.Author.Tests.{le-ltb}
 use lib.ListN.{length}
 use Rattle.amounts.specs.declared.Outcome.{Outcome}
 use Rattle.amounts.specs.declared.Outcome.the-variants.{Pass, Fault}
 use Rattle.rules.specs.declared.State.{State}
-use Rattle.state.specs.Numbers.{stateNumbers, stateOf}
+use Rattle.state.specs.Numbers.{stateOf}
 use Rattle.judge.specs.declared.Verdict.{Verdict}
 use Rattle.judge.specs.declared.Verdict.the-variants as Judged
 use Rattle.judge.specs.Flow.{closing}
 use Rattle.judge.specs.Plain.{Whole}
-use Rattle.judge.specs.Run.{Run}
 use Rattle.judge.proofs.FirstFault.{Sized, sized}
 use Rattle.judge.proofs.FirstFault.Sized.{long, none, ragged, whole}
 use Rattle.portion.specs.declared.Course.{Course}
 use Rattle.portion.specs.declared.Course.the-variants.{Going, Accepted, Refused, Foreign}
 use Rattle.portion.specs.declared.Progress.{Progress}
 use Rattle.portion.specs.declared.Portion.{Portion}
-use Rattle.portion.specs.Portion.{endedBy, told, foreign, refusable, possible, heldName, courseAfter, examining, wentOn, refusedNow, goneOn, unlessEnded, portioned}
+use Rattle.portion.specs.Portion.{endedBy, told, foreign, refusable, possible, courseAfter, examining, wentOn, refusedNow, goneOn, portioned}
 use Rattle.portion.specs.Inner.{Goes}
 use Rattle.portion.specs.Series.{called, total}
 use Rattle.portion.proofs.Sound.{sound-goes}

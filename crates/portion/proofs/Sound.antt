@@ -1,6 +1,6 @@
 -- Numbers that pass the bounds are those of a state from which a judgement may go on without an overflow.
 use Prim.Native.Nat.{ℕ, zero, suc, _+_, _*_, _/_, _%_, _<_, _≤_}
-use mathlib.Core.Path.{_≡_, refl, sym, ap, _∙_}
+use mathlib.Core.Path.{_≡_, refl, _∙_}
 use mathlib.Core.Bool.{true}
 use mathlib.Core.List.{List}
 use native.Mathlib.Omega.{arith}
@@ -12,7 +12,6 @@ use Rattle.text.proofs.Tests.{both-true}
 use Rattle.rules.specs.Bounds.{SumsBelow, StateBelow}
 use Rattle.rules.specs.State.{noSums}
 use Rattle.state.specs.Numbers.{sumsAt, stateOf}
-use Rattle.judge.specs.Flow.{Ready}
 use Rattle.portion.specs.declared.Progress.{Progress}
 use Rattle.portion.specs.Portion.{courseRight, atMost, countsRight, sumsRight, possible}
 use Rattle.portion.specs.Inner.{Goes}

@@ -1,6 +1,6 @@
 -- What a run keeps within the bounds, and which numbers its fault may have.
-use Prim.Native.Nat.{ℕ, zero, suc, _+_, _-_, _*_, _/_, _<_, _≤_}
-use mathlib.Core.Path.{_≡_, refl, sym, ap, _∙_}
+use Prim.Native.Nat.{ℕ, zero, suc, _-_, _*_, _/_, _<_, _≤_}
+use mathlib.Core.Path.{_≡_, refl, _∙_}
 use mathlib.Core.List.{List, [], _∷_}
 use native.Mathlib.Omega.{arith}
 use lib.ListN.{length, take, drop, length-drop}
@@ -20,7 +20,7 @@ use Rattle.rules.specs.Step.{next}
 use Rattle.rules.proofs.Growth.{state-on}
 use Rattle.records.proofs.Sizes.{sums-small}
 use Rattle.judge.specs.Flow.{chunks, restOf}
-use Rattle.judge.specs.Run.{Run, stopped, ran}
+use Rattle.judge.specs.Run.{stopped, ran}
 use Rattle.judge.proofs.ChecksInOrder.{Numbered, fault-number}
 use Rattle.portion.specs.Inner.{lastOf}
 use Rattle.portion.proofs.Reach.{last-within, part-sized}

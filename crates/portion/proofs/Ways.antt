@@ -1,6 +1,6 @@
 -- The ways through a call, in the order of its tests.
 use Prim.Native.Nat.{ℕ, _/_, _%_, _<_, _≤_}
-use mathlib.Core.Path.{_≡_, ap, _∙_}
+use mathlib.Core.Path.{_≡_, ap}
 use mathlib.Core.Bool.{true, false}
 use mathlib.Core.List.{List}
 use borrow.Author.Tests.{lt-ltb, le-ltb, eq-eqb, ne-eqb}
@@ -8,7 +8,6 @@ use lib.ListN.{length}
 use Rattle.state.specs.Numbers.{stateOf}
 use Rattle.portion.specs.declared.Course.{Course}
 use Rattle.portion.specs.declared.Progress.{Progress}
-use Rattle.portion.specs.declared.Portion.{Portion}
 use Rattle.portion.specs.Portion.{told, foreign, possible, wentOn, refusedNow, goneOn, unlessEnded, portioned}
 
 module _ (s : List ℕ) (p : ℕ) (x : Progress) where

@@ -1,9 +1,6 @@
-use Prim.Native.Nat.{ℕ}
-use mathlib.Core.Path.{_≡_, refl, sym, ap, _∙_}
-use mathlib.Core.List.{List}
+use mathlib.Core.Path.{refl, ap, _∙_}
 use borrow.Author.Tests.{lt-ltb, le-ltb}
 use Rattle.portion.specs.declared.Portion.{Portion}
-use Rattle.portion.specs.declared.Progress.{Progress}
 use Rattle.portion.specs.Portion.{portioned}
 use Rattle.state.specs.Numbers.{overlay}
 use Rattle.f24.specs.Linked.{codeOr, roomOr, courseCode, portionNumbers, handedBack, portionCode, portionState, portionRoom}

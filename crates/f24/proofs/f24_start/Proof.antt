@@ -1,7 +1,7 @@
 use Prim.Native.Nat.{ℕ}
 use mathlib.Core.List.{List}
 use Rattle.state.specs.Numbers.{overlay}
-use mathlib.Core.Path.{_≡_, refl, ap, _∙_}
+use mathlib.Core.Path.{refl, ap, _∙_}
 use Rattle.handed.specs.Room.{progressNumbers}
 use Rattle.f24.proofs.Rooms.{short-code, short-room, long-code, long-room}
 use borrow.Author.Needs.{needs}

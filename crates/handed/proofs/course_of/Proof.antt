@@ -1,5 +1,4 @@
 use borrow.Author.Tests.{eq-eqb, ne-eqb}
-use borrow.Author.Needs.{needs}
 use Rattle.handed.proofs.course_of.Statement.{statement}
 use Rattle.handed.proofs.course_of.Tie as tie
 

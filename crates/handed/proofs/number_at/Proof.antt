@@ -1,7 +1,6 @@
-use Prim.Native.Nat.{ℕ, _-_}
+use Prim.Native.Nat.{ℕ}
 use mathlib.Core.Path.{_≡_, sym, ap, _∙_}
 use mathlib.Core.List.{List}
-use native.Mathlib.Omega.{arith}
 use lib.ListN.{length, getD}
 use Rattle.rules.proofs.Arrays.{struct-array}
 use Rattle.handed.proofs.Back.{numbers-stand, numbers-kept, numbers-name}

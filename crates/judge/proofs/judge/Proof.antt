@@ -1,5 +1,5 @@
 use Rattle.judge.proofs.Turn.{judged-long, judged-empty, judged-ragged, judged-from-none, ready-none}
-use mathlib.Core.Path.{_≡_, refl, sym, ap, _∙_}
+use mathlib.Core.Path.{sym, _∙_}
 use native.Mathlib.Omega.{arith}
 use Rattle.text.proofs.Bytes.{part-length}
 use borrow.Author.Needs.{needs}

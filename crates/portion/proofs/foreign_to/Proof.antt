@@ -1,5 +1,3 @@
-use mathlib.Core.Path.{ap}
-use Rattle.judge.specs.declared.Summary.{Summary}
 use borrow.Author.Needs.{needs}
 use Rattle.portion.proofs.foreign_to.Statement.{statement}
 use Rattle.portion.proofs.foreign_to.Tie as tie

@@ -1,19 +1,16 @@
-use Prim.Native.Nat.{ℕ, _+_, _-_, _*_, _/_, _<_, _≤_}
-use mathlib.Core.Path.{_≡_, refl, sym, ap, _∙_}
+use Prim.Native.Nat.{ℕ, _*_, _/_, _<_, _≤_}
+use mathlib.Core.Path.{_≡_, sym, ap, _∙_}
 use mathlib.Core.List.{List}
 use native.Mathlib.Omega.{arith}
-use borrow.Author.Tests.{eq-eqb, ne-eqb}
+use borrow.Author.Tests.{eq-eqb}
 use borrow.Author.Needs.{needs}
 use lib.ListN.{length, take, getD}
-use Rattle.state.specs.Numbers.{stateOf, stateIn, stateNumbers, keptAfter}
+use Rattle.state.specs.Numbers.{stateOf, stateIn}
 use Rattle.state.proofs.Rooms.{some-in, some-after}
 use Rattle.judge.specs.declared.Judgement.{Judgement}
-use Rattle.judge.specs.Flow.{judgedFrom, restOf, Ready}
-use Rattle.judge.specs.Run.{Run, ran, answerOf}
-use Rattle.judge.proofs.Turn.{judged-ran}
-use Rattle.portion.specs.Portion.{heldName, courseAfter, wentOn}
-use Rattle.portion.specs.Inner.{lastOf, courseBy, Goes}
-use Rattle.portion.specs.declared.Course.{Course}
+use Rattle.judge.specs.Flow.{Ready}
+use Rattle.portion.specs.Portion.{wentOn}
+use Rattle.portion.specs.Inner.{Goes}
 use Rattle.portion.specs.declared.Progress.{Progress}
 use Rattle.portion.proofs.Reach.{last-within, last-some, part-sized, went-told}
 use Rattle.portion.proofs.go_on.Statement.{statement}

@@ -1,8 +1,7 @@
 use Prim.Native.Nat.{ℕ, _-_, _+_, _≤_}
 use mathlib.Core.Path.{_≡_, refl, sym, ap, _∙_}
-use mathlib.Core.List.{List}
 use native.Mathlib.Omega.{arith}
-use lib.ListN.{length, drop, replicate, length-set, getD, set}
+use lib.ListN.{length, drop, replicate, length-set, set}
 use lib.Seq.{getD-take, getD-drop}
 use Rattle.text.specs.Placing.{putAt}
 use Rattle.text.proofs.Bytes.{part-length}

@@ -1,7 +1,5 @@
-use mathlib.Core.Path.{_≡_, sym, ap, _∙_}
-use native.Mathlib.Omega.{arith}
+use mathlib.Core.Path.{sym, ap, _∙_}
 use Rattle.state.specs.Numbers.{stateOf}
-use Rattle.portion.specs.declared.Progress.{Progress}
 use Rattle.portion.specs.Portion.{told}
 use Rattle.portion.proofs.Sound.{sound-goes}
 use Rattle.portion.proofs.Ways.{too-long, empty, ragged, more-left, none-left}

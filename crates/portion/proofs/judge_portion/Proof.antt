@@ -1,6 +1,5 @@
-use mathlib.Core.Path.{_≡_, sym, _∙_}
+use mathlib.Core.Path.{sym, _∙_}
 use borrow.Author.Tests.{not-true, not-false}
-use Rattle.portion.specs.Portion.{possible}
 use Rattle.portion.proofs.Ways.{impossible, by-course}
 use borrow.Author.Needs.{needs}
 use Rattle.portion.proofs.judge_portion.Statement.{statement}

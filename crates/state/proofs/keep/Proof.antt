@@ -1,9 +1,7 @@
-use mathlib.Core.Path.{_≡_, sym, ap, _∙_}
-use Prim.Native.Nat.{ℕ, _<_}
-use mathlib.Core.List.{List}
+use mathlib.Core.Path.{_≡_, sym, _∙_}
+use Prim.Native.Nat.{_<_}
 use native.Mathlib.Omega.{arith}
 use lib.ListN.{length}
-use Rattle.state.specs.Numbers.{overlay}
 use Rattle.state.proofs.Rooms.{overlay-all, none-after, some-after}
 use borrow.Author.Needs.{needs}
 use Rattle.state.proofs.keep.Statement.{statement}

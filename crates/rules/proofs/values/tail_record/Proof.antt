@@ -1,4 +1,4 @@
-use Rattle.rules.specs.Checks.{carried, numberFault, negativeFault, headName, tailName, dateFault}
+use Rattle.rules.specs.Checks.{tailName}
 use borrow.Author.Needs.{needs}
 use Rattle.rules.proofs.values.tail_record.Statement.{statement}
 use Rattle.rules.proofs.values.tail_record.Tie as tie
