@@ -119,6 +119,7 @@ numbersBy Portions.Accepted a = a .examined ∷ summaryNumbers (a .summary)
 numbersBy (Portions.Refused n r p) a = a .examined ∷ r ∷ p ∷ []
 numbersBy Portions.Foreign a = a .examined ∷ []
 
+-- So by how the judgement stands.
 abbrev pub portionNumbers : Portion → List ℕ
 portionNumbers a = numbersBy (a .answer) a
 
@@ -129,6 +130,7 @@ stateBy Portions.Accepted a state = overlay (progressNumbers (a .next)) state
 stateBy (Portions.Refused n r p) a state = overlay (progressNumbers (a .next)) state
 stateBy Portions.Foreign a state = state
 
+-- So by how the judgement stands.
 abbrev pub handedBack : Portion → List ℕ → List ℕ
 handedBack a state = stateBy (a .answer) a state
 

@@ -7,9 +7,9 @@ use native.Mathlib.Omega.{arith}
 use native.Mathlib.Decide.{decLe}
 use Rattle.portion.specs.declared.Portion.{Portion}
 use Rattle.portion.specs.Portion.{startProgress, portioned}
-use Rattle.portion.specs.Series.{needed}
+use Rattle.portion.specs.Series.{needed, Given}
 use Rattle.portion.proofs.Series.{portions-add}
-use Rattle.portion.proofs.Judged.{Given, enough, too-few, needed-most}
+use Rattle.portion.proofs.Judged.{enough, too-few, needed-most}
 use Rattle.f24_judge.specs.InTurn.{goesOn, calledOn, callsOf}
 
 module _ (s : List ℕ) (p : ℕ) (some : 0 < p) where

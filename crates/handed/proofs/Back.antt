@@ -2,15 +2,16 @@
 use Prim.Native.Nat.{ℕ, _+_, _-_, _<_, _≤_}
 use mathlib.Core.Path.{_≡_, refl, sym, ap, ap₂, _∙_}
 use mathlib.Core.Bool.{true}
-use mathlib.Core.List.{List, _++_, append-assoc}
+use mathlib.Core.List.{List, _∷_, _++_, append-assoc}
 use native.Mathlib.Omega.{arith}
-use lib.ListN.{length, take, drop, getD, length-append, List·getD-append}
+use lib.ListN.{length, take, drop, getD, replicate, length-append, List·getD-append}
 use lib.Seq.{getD-append-add, take-append-seam, drop-append-seam, drop-drop}
-use Rattle.state.specs.Numbers.{overlay}
+use Rattle.rules.specs.State.{startState}
+use Rattle.state.specs.Numbers.{overlay, sumsNumbers, stateNumbers}
 use Rattle.portion.specs.declared.Course.{Course}
 use Rattle.portion.specs.declared.Course.the-variants.{Going, Accepted, Refused, Foreign}
 use Rattle.portion.specs.declared.Progress.{Progress}
-use Rattle.portion.specs.Portion.{atMost}
+use Rattle.portion.specs.Portion.{startProgress, atMost}
 use Rattle.handed.specs.Room.{courseNumbers, courseOf, progressNumbers, progressOf}
 
 pub stands-four : (o : Course) → length (courseNumbers o) ≡ 4
@@ -79,3 +80,8 @@ module _ (x : Progress) (k : length (x .kept) ≡ 29) (n : length (x .name) ≡ 
   unfolding progressOf
   handed-back-is-read d b =
       rw (name-there, b, kept-there, stands-there 0 (omega arith), stands-there 1 (omega arith), stands-there 2 (omega arith), stands-there 3 (omega arith), course-back (x .course) d)
+
+-- the start is a 1 and 52 zeros
+pub start-numbers : progressNumbers startProgress ≡ 1 ∷ replicate 52 0
+unfolding progressNumbers startProgress stateNumbers sumsNumbers startState
+start-numbers = refl

@@ -16,6 +16,7 @@ courseNumbers Accepted = 2 ∷ 0 ∷ 0 ∷ 0 ∷ []
 courseNumbers (Refused n r p) = 3 ∷ n ∷ r ∷ p ∷ []
 courseNumbers Foreign = 0 ∷ 0 ∷ 0 ∷ 0 ∷ []
 
+-- And so it is read; any other first number is that of no judgement.
 abbrev pub courseOf : ℕ → ℕ → ℕ → ℕ → Course
 courseOf a n r p = cond (eqb a 1) Going (cond (eqb a 2) Accepted (cond (eqb a 3) (Refused n r p) Foreign))
 
@@ -27,5 +28,6 @@ progressNumbers x = courseNumbers (x .course) ++ (x .kept ++ x .name)
 abbrev pub noProgress : Progress
 noProgress = record { course = Foreign; kept = replicate 29 0; name = replicate 20 0 }
 
+-- What the numbers of a room say was handed back.
 unfoldable pub progressOf : List ℕ → Progress
 progressOf l = cond (atMost 255 (take 20 (drop 33 l))) (record { course = courseOf (getD l 0 0) (getD l 1 0) (getD l 2 0) (getD l 3 0); kept = take 29 (drop 4 l); name = take 20 (drop 33 l) }) noProgress

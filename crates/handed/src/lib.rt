@@ -4,7 +4,7 @@ ghost use mathlib.Core.Bool.{true};
 ghost use Prim.Native.Nat.{_<_, _≤_};
 ghost use lib.ListN.{length, getD};
 ghost use Rattle.portion.specs.Portion.{atMost};
-ghost use Rattle.handed.specs.Room.{courseNumbers, courseOf, progressNumbers, noProgress, progressOf};
+ghost use Rattle.handed.specs.Room.{courseNumbers, courseOf, progressNumbers, progressOf};
 use portion::Course;
 use portion::Progress;
 

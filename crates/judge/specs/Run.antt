@@ -1,4 +1,4 @@
--- Believed, for a judgement that goes on from a state. A run over records: the first fault among them, and the state that those before it have led to.
+-- Believed, for a judgement that goes on from a state; `answerOf` is for theorems. A run over records: the first fault among them, and the state that those before it have led to.
 use mathlib.Core.List.{List, [], _∷_}
 use Prim.Native.Nat.{ℕ}
 use Rattle.amounts.specs.declared.Outcome.{Outcome}
@@ -14,6 +14,7 @@ pub record Run : Type 0 where
   pub fault : Outcome
   pub state : State
 
+-- a run that has come so far
 abbrev pub standsAt : Outcome → State → Run
 standsAt o st = record { fault = o; state = st }
 

@@ -24,7 +24,7 @@ use Rattle.portion.specs.declared.Course.{Course}
 use Rattle.portion.specs.declared.Course.the-variants.{Going, Accepted, Refused, Foreign}
 use Rattle.portion.specs.declared.Progress.{Progress}
 use Rattle.portion.specs.Portion.{told, possible, heldName, courseAfter, allowed, examining, wentOn, portioned}
-use Rattle.portion.specs.Series.{oneMore, steps}
+use Rattle.portion.specs.Series.{oneMore, steps, Agree}
 use Rattle.portion.specs.Inner.{lastOf}
 use Rattle.portion.proofs.Reach.{drop-take, chunks-take, take-chunks, allowed-length, last-within, last-some}
 use Rattle.portion.proofs.Examined.{steps-most, examined-steps}
@@ -49,10 +49,6 @@ same-run name st (r ∷ rs) (t ∷ ts) l e = go (fault name st r) refl e (λ h. 
     go (Fault c d) f h on =
         let a : r ≡ t = cc in
         ap (λ (o : Outcome). stopped o st (ran name (next st r) rs)) f ∙ sym (ap (λ (o : Outcome). stopped o st (ran name (next st t) ts)) (ap (fault name st) (sym a) ∙ f))
-
--- two flows agree in the records behind the first a, up to the b-th
-abbrev pub Agree : List ℕ → List ℕ → ℕ → ℕ → Type 0
-Agree s t a b = take ((b - a) * 120) (drop (a * 120) s) ≡ take ((b - a) * 120) (drop (a * 120) t)
 
 module _ (s t : List ℕ) (l : length s ≡ length t) (p : ℕ) (x : Progress) where
   -- the tests on the length

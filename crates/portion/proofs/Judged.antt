@@ -28,7 +28,7 @@ use Rattle.portion.specs.declared.Course.the-variants.{Going}
 use Rattle.portion.specs.declared.Portion.{Portion}
 use Rattle.portion.specs.Portion.{startProgress, endedBy, examinedBy, summaryBy, told, atMost, countsRight, sumsRight, possible, heldName, courseAfter, examining, refusedNow, goneOn, portioned}
 use Rattle.portion.specs.Inner.{lastOf, Goes}
-use Rattle.portion.specs.Series.{called, total, needed}
+use Rattle.portion.specs.Series.{called, total, needed, Given, NotYet}
 use Rattle.portion.proofs.Sound.{sound-goes}
 use Rattle.portion.proofs.Reach.{Stands, last-within, ran-stands}
 use Rattle.portion.proofs.Split.{resumed, run-on}
@@ -68,13 +68,6 @@ closing-summary st = go (eqb (st .stage .phase) afterTail)
     go : (t : Bool) → summaryBy (endedBy (cond t (acceptedWith st) (refusedWith 5 (st .seen + 1) 0) .verdict)) st ≡ cond t (acceptedWith st) (refusedWith 5 (st .seen + 1) 0) .summary
     go true = refl
     go false = refl
-
--- the judgement, given with the number of records that it needed; or none yet, with those of the portion
-abbrev pub Given : List ℕ → Portion → Type 0
-Given s a = (a .answer ≡ endedBy (judged s .verdict)) × (a .examined ≡ needed s) × (a .summary ≡ judged s .summary)
-
-abbrev pub NotYet : ℕ → Portion → Type 0
-NotYet p a = (a .answer ≡ Going) × (a .examined ≡ p)
 
 -- refused by its length, with any portion
 lengthy : (s : List ℕ) (n : ℕ) → (n ≡ 5 → ⊥) → judged s ≡ refusedWith n 0 0 → Given s (told (refusedNow n startProgress)) × (needed s ≡ 0)
@@ -179,7 +172,7 @@ module _ (s : List ℕ) (w : Whole s) where
         let z = zero-seen in
         let u = further s p 0 startProgress start-possible goes n f h in
         let a : all ≡ rest = all-is ∙ ap (λ (v : Outcome). resumed v now rest) f in
-        (rw (answers n, f, lt-ltb (now .state .seen) count h, back) (refl, omega arith), needs (all .fault) refl (ap (λ (v : Run). v .state .seen) a) (ap (λ (v : Run). v .fault) a) (ran-stands (headNameOf s) (now .state) (take count (drop p (restOf s (startState .seen))))))
+        (rw (answers n, f, lt-ltb (now .state .seen) count h, back) (refl, omega arith, refl), needs (all .fault) refl (ap (λ (v : Run). v .state .seen) a) (ap (λ (v : Run). v .fault) a) (ran-stands (headNameOf s) (now .state) (take count (drop p (restOf s (startState .seen))))))
       where
         needs : (o : Outcome) → all .fault ≡ o → all .state .seen ≡ rest .state .seen → all .fault ≡ rest .fault → Stands (rest .fault) (now .state .seen) (length (take count (drop p (restOf s (startState .seen))))) (rest .state .seen) → p < needed s
         needs Pass g b c t = let d = need-all g in let z = zero-seen in let u = further s p 0 startProgress start-possible goes n f h in omega arith
@@ -241,7 +234,7 @@ too-few s p h = go (sized s)
         by : Dec (p ≡ 0) → NotYet p (portioned s p startProgress)
         by (yes e) =
             let f = way.by-course s p startProgress Going start-possible start-going ∙ (way.more-left s p startProgress (w .short) (λ i. let l = w .some in omega arith) (w .even) (goes s w .more) ∙ ap told (went-none s p startProgress e)) in
-            rw (f, start-going) (refl, zero-seen s w p ∙ sym e)
+            rw (f, start-going) (refl, zero-seen s w p ∙ sym e, refl)
         by (no n) = ⊎-elim (λ d. let l = d .1 in absurd (omega arith)) (λ d. d .0) (decided s w p n)
 
 -- "Any portions above zero end in 01's answer, given by the call that examines the last record needed": so soon as the portions together reach it, and not before

@@ -11,3 +11,4 @@ pub mod Judged
 pub mod Examined
 pub mod Depends
 pub mod OneAnswer
+pub mod Told

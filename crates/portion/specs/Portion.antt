@@ -23,7 +23,7 @@ use Rattle.portion.specs.declared.Portion.{Portion}
 unfoldable pub startProgress : Progress
 startProgress = record { course = Going; kept = stateNumbers startState; name = replicate 20 0 }
 
--- "It also holds whether it ended, and how"
+-- how a judgement stands that has ended: docs/PORTIONS.md, "it has ended with acceptance", "with a refusal"
 abbrev pub endedBy : Verdict → Course
 endedBy Judged.Accepted = Accepted
 endedBy (Judged.Refused n r p) = Refused n r p
@@ -35,17 +35,18 @@ examinedBy Accepted seen = seen
 examinedBy (Refused n r p) seen = cond (eqb n 5) seen r
 examinedBy Foreign seen = 0
 
+-- the summary of an accepted flow, else zeros
 abbrev pub summaryBy : Course → State → Summary
 summaryBy Going st = noSummary
 summaryBy Accepted st = summaryOf st
 summaryBy (Refused n r p) st = noSummary
 summaryBy Foreign st = noSummary
 
--- "Answer, examined count (a result field), new state": how the state stands is the answer
+-- what a call answers and hands back: how the state stands is the answer, and the examined count "is a result field"
 abbrev pub told : Progress → Portion
 told x = record { answer = x .course; examined = examinedBy (x .course) (stateOf (x .kept) .seen); summary = summaryBy (x .course) (stateOf (x .kept)); next = x }
 
--- "It gets an answer of its own, examined 0, and comes back as it was"
+-- docs/PORTIONS.md: "A foreign state comes back as it was, and its answer is no verdict on the flow"; "none with 1, 2 and foreign"
 abbrev pub foreign : Progress → Portion
 foreign x = record { answer = Foreign; examined = 0; summary = noSummary; next = x }
 
@@ -56,6 +57,7 @@ refusable seen n r p =
     (cond (ltb n 3) (cond (eqb r 0) (eqb p 0) false)
     (cond (eqb r (seen + 1)) (cond (eqb n 5) (eqb p 0) (cond (leb r 546) (cond (leb n 20) true (eqb n 26)) false)) false))
 
+-- so that a state may stand so after so many records
 abbrev pub courseRight : ℕ → Course → Bool
 courseRight seen Going = true
 courseRight seen Accepted = true
@@ -81,15 +83,15 @@ unfoldable pub sumsRight : List ℕ → Bool
 sumsRight kept =
     cond (leb (getD kept 6 0 + getD kept 7 0) (getD kept 0 0 * 999_999_999_999_999)) (atMost (getD kept 0 0 * 999_999_999_999_999) (take 21 (drop 8 kept))) false
 
--- "sums, counts, phase or section that no judgement can have"
+-- docs/PORTIONS.md, "the state by itself: is it one that a judgement can have?"
 unfoldable pub possible : Progress → Bool
 possible x = cond (countsRight (stateOf (x .kept))) (cond (courseRight (stateOf (x .kept) .seen) (x .course)) (sumsRight (x .kept)) false) false
 
--- "The state handed back holds the head's name": that of record 1 from where it is examined on
+-- docs/PORTIONS.md, "the head's support name, which EF must repeat, is in the state": that of record 1 from where it is examined on
 unfoldable pub heldName : List ℕ → Progress → List ℕ
 heldName s x = cond (eqb (stateOf (x .kept) .seen) 0) (headNameOf s) (x .name)
 
--- how a judgement of n records stands after a run: "Acceptance and 5 are given by the call that examines the last record"
+-- how a judgement of n records stands after a run: 01's answer is "given by the call that examines the last record needed"
 abbrev pub courseAfter : ℕ → Outcome → State → Course
 courseAfter n Pass st = cond (ltb (st .seen) n) Going (endedBy (closing st .verdict))
 courseAfter n (Fault e p) st = Refused e (st .seen + 1) p
@@ -98,6 +100,7 @@ courseAfter n (Fault e p) st = Refused e (st .seen + 1) p
 abbrev pub allowed : List ℕ → ℕ → Progress → List (List ℕ)
 allowed s p x = take p (restOf s (stateOf (x .kept) .seen))
 
+-- the run over them
 abbrev pub examining : List ℕ → ℕ → Progress → Run
 examining s p x = ran (heldName s x) (stateOf (x .kept)) (allowed s p x)
 
@@ -111,7 +114,7 @@ wentOn s p x =
 abbrev pub refusedNow : ℕ → Progress → Progress
 refusedNow n x = record { course = Refused n 0 0; kept = x .kept; name = x .name }
 
--- "1 and 2, seen against this flow, then go on"
+-- docs/PORTIONS.md, the third to the fifth test: refusals 1 and 2, the records seen against this flow, the records
 unfoldable pub goneOn : List ℕ → ℕ → Progress → Portion
 goneOn s p x =
     cond (ltb 65520 (length s)) (told (refusedNow 1 x))
@@ -125,6 +128,6 @@ unlessEnded Accepted x a = told x
 unlessEnded (Refused n r p) x a = told x
 unlessEnded Foreign x a = foreign x
 
--- "Order of tests: bounds that need no flow, ended (its answer again), 1 and 2, seen against this flow, then go on"
+-- docs/PORTIONS.md, "These are tried, in this order": the state by itself, whether it has ended, and then the flow
 unfoldable pub portioned : List ℕ → ℕ → Progress → Portion
 portioned s p x = cond (possible x) (unlessEnded (x .course) x (goneOn s p x)) (foreign x)

@@ -1,13 +1,15 @@
 -- For theorems. Series of calls, what a judgement needs, and the records that a run steps over.
-use Prim.Native.Nat.{ℕ, zero, suc, _+_, _/_}
+use Prim.Native.Nat.{ℕ, zero, suc, _+_, _-_, _*_, _/_}
+use mathlib.Core.Path.{_≡_}
 use mathlib.Core.List.{List, [], _∷_}
-use lib.ListN.{length}
+use lib.ListN.{length, take, drop}
 use Rattle.amounts.specs.declared.Outcome.{Outcome}
 use Rattle.amounts.specs.declared.Outcome.the-variants.{Pass, Fault}
 use Rattle.rules.specs.declared.State.{State}
 use Rattle.rules.specs.Checks.{fault}
 use Rattle.rules.specs.Step.{next}
-use Rattle.judge.specs.Flow.{judged}
+use Rattle.judge.specs.Flow.{noSummary, judged}
+use Rattle.portion.specs.declared.Course.the-variants.{Going}
 use Rattle.portion.specs.declared.Progress.{Progress}
 use Rattle.portion.specs.declared.Portion.{Portion}
 use Rattle.portion.specs.Portion.{endedBy, examinedBy, portioned}
@@ -17,6 +19,7 @@ unfoldable pub called : List ℕ → Progress → ℕ → List ℕ → Portion
 called s x p [] = portioned s p x
 called s x p (q ∷ qs) = called s (portioned s p x .next) q qs
 
+-- the portions of a series together
 unfoldable pub total : List ℕ → ℕ
 total [] = 0
 total (p ∷ ps) = p + total ps
@@ -33,3 +36,15 @@ oneMore (Fault e p) n = 1
 unfoldable pub steps : List ℕ → State → List (List ℕ) → ℕ
 steps name st [] = zero
 steps name st (r ∷ rs) = oneMore (fault name st r) (steps name (next st r) rs)
+
+-- the judgement, given with the number of records that it needed
+abbrev pub Given : List ℕ → Portion → Type 0
+Given s a = (a .answer ≡ endedBy (judged s .verdict)) × (a .examined ≡ needed s) × (a .summary ≡ judged s .summary)
+
+-- no judgement yet, with the records of the portions examined
+abbrev pub NotYet : ℕ → Portion → Type 0
+NotYet p a = (a .answer ≡ Going) × (a .examined ≡ p) × (a .summary ≡ noSummary)
+
+-- two flows agree in the records behind the first a, up to the b-th
+abbrev pub Agree : List ℕ → List ℕ → ℕ → ℕ → Type 0
+Agree s t a b = take ((b - a) * 120) (drop (a * 120) s) ≡ take ((b - a) * 120) (drop (a * 120) t)

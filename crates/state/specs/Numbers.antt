@@ -1,4 +1,4 @@
--- Believed; `Kept` serves inner functions. The state of a judgement as numbers.
+-- Believed; `stateIn`, `keptAfter` and `Kept` serve inner functions. The state of a judgement as numbers.
 use Prim.Native.Nat.{ℕ, _+_, _<_}
 use mathlib.Core.Path.{_≡_}
 use mathlib.Core.List.{List, [], _∷_, _++_}

@@ -9,9 +9,6 @@ use rules::DelegaSums;
 use rules::Money;
 use rules::State;
 
-// How many numbers a state has.
-pub const NUMBERS: usize = 29;
-
 // Writes numbers at the start of a room.
 pub fn put(room: &mut [u64], numbers: &[u64])
     requires { ⌜ length (now numbers) ≤ length (now room) ⌝ }
