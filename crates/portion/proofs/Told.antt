@@ -24,6 +24,7 @@ use Rattle.portion.specs.declared.Course.the-variants.{Going, Accepted, 
 use Rattle.portion.specs.declared.Progress.{Progress}
 use Rattle.portion.specs.declared.Portion.{Portion}
 use Rattle.portion.specs.Portion.{endedBy, told, foreign, refusable, courseRight, possible, courseAfter, examining, wentOn, refusedNow, portioned}
+use Rattle.portion.specs.Series.{Foreigner, AtOnce}
 use Rattle.portion.proofs.Sound.{possible-says, sound-goes}
 use Rattle.portion.proofs.Again.{went-sound, refused-sound}
 use Rattle.portion.proofs.Portions.{went, went-none}
@@ -104,26 +105,36 @@ pub larger-portion : (s : List ℕ) (p q : ℕ) (x : Progress) (v : Verdict) →
 larger-portion s p q x v e = sym (portions-add s p q x) ∙ given-again s s p q x v e
 
 -- a state is foreign where it fails the bounds, or goes on and has seen as many records as this flow has, and for no other reason; it then comes back as it was, with none examined
-pub foreign-exactly : (s : List ℕ) (p : ℕ) (x : Progress) → portioned s p x .answer ≡ Foreign →
-    (portioned s p x ≡ foreign x) × ((possible x ≡ false) ⊎ ((x .course ≡ Going) × Whole s × (length s / 120 ≤ stateOf (x .kept) .seen)))
+pub foreign-exactly : (s : List ℕ) (p : ℕ) (x : Progress) → portioned s p x .answer ≡ Foreign → Foreigner s x (portioned s p x)
 foreign-exactly s p x e = go (way-to s p x)
   where
-    not-so : (y : Progress) → portioned s p x ≡ told y → sort (y .course) ≤ 1 → (portioned s p x ≡ foreign x) × ((possible x ≡ false) ⊎ ((x .course ≡ Going) × Whole s × (length s / 120 ≤ stateOf (x .kept) .seen)))
+    not-so : (y : Progress) → portioned s p x ≡ told y → sort (y .course) ≤ 1 → Foreigner s x (portioned s p x)
     not-so y f h = let a = sym (ap (λ (b : Portion). sort (b .answer)) f) ∙ ap sort e in absurd (omega arith)
 
-    records : x .course ≡ Going → portioned s p x ≡ told (wentOn s p x) → Dec (p ≡ 0) → (portioned s p x ≡ foreign x) × ((possible x ≡ false) ⊎ ((x .course ≡ Going) × Whole s × (length s / 120 ≤ stateOf (x .kept) .seen)))
+    records : x .course ≡ Going → portioned s p x ≡ told (wentOn s p x) → Dec (p ≡ 0) → Foreigner s x (portioned s p x)
     records c f (yes z) = not-so (wentOn s p x) f (let a = ap (λ (i : Progress). sort (i .course)) (went-none s p x z) ∙ ap sort c in omega arith)
     records c f (no n) = not-so (wentOn s p x) f (let a = ap (λ (i : Progress). sort (i .course)) (went s p x n) in let b = after-sort (length s / 120) (examining s p x .fault) (examining s p x .state) in omega arith)
 
-    go : Way s p x → (portioned s p x ≡ foreign x) × ((possible x ≡ false) ⊎ ((x .course ≡ Going) × Whole s × (length s / 120 ≤ stateOf (x .kept) .seen)))
-    go (by-bounds y f) = (f, inl y)
+    go : Way s p x → Foreigner s x (portioned s p x)
+    go (by-bounds y f) = rw f (refl, refl, refl, inl y)
     go (by-ending u y c f) = not-so x f (let a = ap sort c in let b = ended-sort u in omega arith)
     go (by-length n y f) = not-so (refusedNow n x) f (omega arith)
-    go (by-seen y c w m f) = (f, inr (c, w, m))
+    go (by-seen y c w m f) = rw f (refl, refl, refl, inr (c, w, m))
     go (by-records y c w m f) = records c f (ℕ-discrete p 0)
+
+pub foreign-then : (s : List ℕ) (p : ℕ) (x : Progress) → (possible x ≡ false) ⊎ ((x .course ≡ Going) × Whole s × (length s / 120 ≤ stateOf (x .kept) .seen)) → portioned s p x .answer ≡ Foreign
+foreign-then s p x r = go (possible x) refl r
+  where
+    failed : possible x ≡ false → portioned s p x .answer ≡ Foreign
+    failed y = ap (λ (a : Portion). a .answer) (way.impossible s p x y)
+
+    go : (t : Bool) → possible x ≡ t → (possible x ≡ false) ⊎ ((x .course ≡ Going) × Whole s × (length s / 120 ≤ stateOf (x .kept) .seen)) → portioned s p x .answer ≡ Foreign
+    go false y q = failed y
+    go true y (inl n) = failed n
+    go true y (inr q) = let w = q .1 in ap (λ (a : Portion). a .answer) (way.by-course s p x Going y (q .0) ∙ way.none-left s p x (w .short) (λ e. let h = w .some in omega arith) (w .even) (q .2))
 
 -- 1 and 2 come before the records seen, with any portion, and leave the state as it came but for its end
 pub length-first : (s : List ℕ) (p : ℕ) (x : Progress) → possible x ≡ true → x .course ≡ Going →
-    (65520 < length s → portioned s p x ≡ told (refusedNow 1 x)) × (length s ≡ 0 → portioned s p x ≡ told (refusedNow 2 x)) × (length s ≤ 65520 → (length s ≡ 0 → ⊥) → (length s % 120 ≡ 0 → ⊥) → portioned s p x ≡ told (refusedNow 2 x))
+    (65520 < length s → AtOnce 1 x (portioned s p x)) × (length s ≡ 0 → AtOnce 2 x (portioned s p x)) × (length s ≤ 65520 → (length s ≡ 0 → ⊥) → (length s % 120 ≡ 0 → ⊥) → AtOnce 2 x (portioned s p x))
 length-first s p x y c =
-    (λ h. way.by-course s p x Going y c ∙ way.too-long s p x h, λ h. way.by-course s p x Going y c ∙ way.empty s p x (omega arith) h, λ h n r. way.by-course s p x Going y c ∙ way.ragged s p x h n r)
+    (λ h. rw (way.by-course s p x Going y c ∙ way.too-long s p x h) (refl, refl, refl, refl, refl, refl), λ h. rw (way.by-course s p x Going y c ∙ way.empty s p x (omega arith) h) (refl, refl, refl, refl, refl, refl), λ h n r. rw (way.by-course s p x Going y c ∙ way.ragged s p x h n r) (refl, refl, refl, refl, refl, refl))

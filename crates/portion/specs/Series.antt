@@ -1,18 +1,22 @@
 -- For theorems. Series of calls, what a judgement needs, and the records that a run steps over.
-use Prim.Native.Nat.{ℕ, zero, suc, _+_, _-_, _*_, _/_}
+use Prim.Native.Nat.{ℕ, zero, suc, _+_, _-_, _*_, _/_, _≤_}
 use mathlib.Core.Path.{_≡_}
+use mathlib.Core.Bool.{false}
 use mathlib.Core.List.{List, [], _∷_}
+use mathlib.Core.Logic.{_⊎_}
 use lib.ListN.{length, take, drop}
 use Rattle.amounts.specs.declared.Outcome.{Outcome}
 use Rattle.amounts.specs.declared.Outcome.the-variants.{Pass, Fault}
 use Rattle.rules.specs.declared.State.{State}
 use Rattle.rules.specs.Checks.{fault}
 use Rattle.rules.specs.Step.{next}
+use Rattle.state.specs.Numbers.{stateOf}
 use Rattle.judge.specs.Flow.{noSummary, judged}
-use Rattle.portion.specs.declared.Course.the-variants.{Going}
+use Rattle.judge.specs.Plain.{Whole}
+use Rattle.portion.specs.declared.Course.the-variants.{Going, Refused}
 use Rattle.portion.specs.declared.Progress.{Progress}
 use Rattle.portion.specs.declared.Portion.{Portion}
-use Rattle.portion.specs.Portion.{endedBy, examinedBy, portioned}
+use Rattle.portion.specs.Portion.{endedBy, examinedBy, possible, portioned}
 
 -- the last of a series of calls, each from what the one before it handed back
 unfoldable pub called : List ℕ → Progress → ℕ → List ℕ → Portion
@@ -48,3 +52,11 @@ NotYet p a = (a .answer ≡ Going) × (a .examined ≡ p) × (a .summary ≡ noS
 -- two flows agree in the records behind the first a, up to the b-th
 abbrev pub Agree : List ℕ → List ℕ → ℕ → ℕ → Type 0
 Agree s t a b = take ((b - a) * 120) (drop (a * 120) s) ≡ take ((b - a) * 120) (drop (a * 120) t)
+
+-- a foreign answer: none examined, zeros, the state as it came; and why it is foreign
+abbrev pub Foreigner : List ℕ → Progress → Portion → Type 0
+Foreigner s x a = (a .examined ≡ 0) × (a .summary ≡ noSummary) × (a .next ≡ x) × ((possible x ≡ false) ⊎ ((x .course ≡ Going) × Whole s × (length s / 120 ≤ stateOf (x .kept) .seen)))
+
+-- refusal 1 or 2, of a flow as it is: none examined, and the state as it came but for its end
+abbrev pub AtOnce : ℕ → Progress → Portion → Type 0
+AtOnce n x a = (a .answer ≡ Refused n 0 0) × (a .examined ≡ 0) × (a .summary ≡ noSummary) × (a .next .course ≡ Refused n 0 0) × (a .next .kept ≡ x .kept) × (a .next .name ≡ x .name)
