@@ -17,7 +17,7 @@ use Rattle.rules.specs.Step.{next}
 use Rattle.judge.specs.declared.Judgement.{Judgement}
 use Rattle.judge.specs.Flow.{recordsOf, headNameOf}
 use Rattle.judge.specs.Plain.{Whole, stateAfter}
-use Rattle.rebalance.specs.Rebalance.{rebalanced, flat, Sized}
+use Rattle.rebalance.specs.Rebalance.{rebalanced, flat, Sized, refreshed}
 use Rattle.rebalance.proofs.Emit.{emit-plain}
 use Rattle.rebalance.proofs.Rebalanced.{mendable-fits, length-rebalanced, sized-rebalanced, state-rebalanced, rebalanced-append}
 use Rattle.rebalance.proofs.Flat.{records-flat}
@@ -25,7 +25,7 @@ use Rattle.rebalance.proofs.Weighed.{mendable-positive}
 use Rattle.rebalance.proofs.Judged.{sized-records, accepted-untouched, accepted-mends}
 use Rattle.find.specs.Line.{lineFrom, lineOfKind, lineOf}
 use Rattle.correct.specs.declared.Correction.the-variants.{Made}
-use Rattle.correct.specs.Correction.{sectionOf, refreshed, correctionOf, correctedBytes}
+use Rattle.correct.specs.Correction.{sectionOf, correctionOf, correctedBytes}
 use Rattle.correct.specs.Effect.{withAmounts, recordNamed, debitOf, creditOf}
 use Rattle.correct.proofs.Amended.{amended, amended-again, line-amended, debit-amended, credit-amended}
 use Rattle.correct.proofs.Split.{Split, line-splits, parts, length-here, within-table, records-replaced}

@@ -4,9 +4,10 @@ use mathlib.Core.Path.{_≡_}
 use mathlib.Core.List.{List}
 use mathlib.Core.Logic.{_↔_}
 use borrow.Author.Tests.{ne-eqb}
+use Rattle.rebalance.specs.Rebalance.{refreshed}
 use Rattle.find.specs.Line.{lineOf, foundIn}
 use Rattle.correct.specs.declared.Correction.the-variants.{Made, Refused}
-use Rattle.correct.specs.Correction.{refreshed, correctionOf, correctedBytes}
+use Rattle.correct.specs.Correction.{correctionOf, correctedBytes}
 use Rattle.correct.specs.Effect.{withAmounts}
 use Rattle.correct.specs.WhenRefused.{Answers, IsMade}
 use Rattle.correct.proofs.Answered.{Passed, passed-of, passed-made, answered-exactly}

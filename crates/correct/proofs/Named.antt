@@ -4,13 +4,14 @@ use mathlib.Core.Path.{_≡_}
 use mathlib.Core.List.{List}
 use Rattle.judge.specs.Plain.{Whole}
 use Rattle.judge.proofs.Accepted.{accepted-means-no-fault}
+use Rattle.rebalance.specs.Rebalance.{refreshed}
 use Rattle.find.specs.declared.Found.the-variants as Answer
 use Rattle.find.specs.Line.{foundIn}
 use Rattle.find.proofs.NamedLine.{found-exactly}
 use Rattle.find.proofs.FoundPart.{found-accepted, found-part}
 use Rattle.correct.specs.declared.Correction.{Correction}
 use Rattle.correct.specs.declared.Correction.the-variants.{Refused}
-use Rattle.correct.specs.Correction.{sectionOf, replaced, refreshed, tried, bytesAfter, correctionOf, correctedBytes}
+use Rattle.correct.specs.Correction.{sectionOf, replaced, tried, bytesAfter, correctionOf, correctedBytes}
 use Rattle.correct.specs.Writing.{KthLine}
 use Rattle.correct.proofs.Split.{line-splits, line-found, within-table}
 

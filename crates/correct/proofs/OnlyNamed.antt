@@ -5,11 +5,9 @@ use mathlib.Core.Bool.{Bool, true, false, cond}
 use mathlib.Core.List.{List, [], _∷_, _++_}
 use mathlib.Core.Logic.{inl, inr, ⊎-elim}
 use native.Mathlib.Omega.{arith}
-use native.Mathlib.Decide.{decLt}
 use borrow.Author.Tests.{eqb-true, eqb-false, eq-eqb, ne-eqb}
 use lib.Dec.{eqb}
-use lib.ListN.{length, getD, List·getD-append}
-use lib.Seq.{getD-append-add}
+use lib.ListN.{length, getD}
 use Rattle.text.specs.Numbers.{digitsOf}
 use Rattle.text.specs.Placing.{putAt}
 use Rattle.text.proofs.Numerals.{length-digits}
@@ -28,17 +26,18 @@ use Rattle.rules.specs.Step.{next}
 use Rattle.judge.specs.Flow.{recordsOf, headNameOf}
 use Rattle.judge.specs.Plain.{NoFault, Whole, stateAfter}
 use Rattle.judge.proofs.Accepted.{accepted-means-no-fault, carried-number}
-use Rattle.rebalance.specs.Rebalance.{putAll, emit, rebalanced, Sized, flat}
+use Rattle.rebalance.specs.Rebalance.{putAll, emit, rebalanced, Sized, refreshed}
 use Rattle.layout.proofs.InTable.{line-within}
 use Rattle.rebalance.specs.Places.{balanceColumns}
 use Rattle.rebalance.proofs.Outside.{outside, put-outside, covers-clear, balance-covers}
 use Rattle.rebalance.proofs.Columns.{Storing, plain, balance, payment, tail, storing}
 use Rattle.rebalance.proofs.Emit.{kept-each, emit-same-stored, emit-plain, emit-outside, fault-kept, emit-own}
 use Rattle.rebalance.proofs.Rebalanced.{sized-rebalanced}
+use Rattle.rebalance.proofs.Flat.{flat-byte}
 use Rattle.rebalance.proofs.Judged.{sized-records, flat-records}
 use Rattle.find.specs.Line.{lineOf}
 use Rattle.correct.specs.declared.Correction.the-variants.{Made}
-use Rattle.correct.specs.Correction.{sectionOf, refreshed, correctionOf, correctedBytes}
+use Rattle.correct.specs.Correction.{sectionOf, correctionOf, correctedBytes}
 use Rattle.correct.specs.Effect.{withAmounts}
 use Rattle.correct.specs.Touched.{lineColumns, storedColumns, mayTouch}
 use Rattle.correct.proofs.Amended.{amended, credit-room, debit-room, line-amended}
@@ -47,23 +46,6 @@ use Rattle.correct.proofs.Answered.{Passed}
 use Rattle.correct.proofs.Conditions.{made-passed, made-bytes}
 use Rattle.correct.proofs.StaysAccepted.{accepted-whole, amounts-whole}
 use Rattle.correct.proofs.OtherSums.{Off, blank-at, off-on, off-line}
-
--- The byte of records at an index is that of a record at a column.
-flat-byte : (rs : List (List ℕ)) → Sized rs → (i : ℕ) → getD (flat rs) i 0 ≡ getD (getD rs (i / 120) []) (i % 120) 0
-unfolding flat
-flat-byte [] z i = refl
-flat-byte (r ∷ rs) z i = go (decLt i 120) (flat-byte rs (z .1) (i - 120))
-  where
-    go : Dec (i < 120) → getD (flat rs) (i - 120) 0 ≡ getD (getD rs ((i - 120) / 120) []) ((i - 120) % 120) 0 → getD (r ++ flat rs) i 0 ≡ getD (getD (r ∷ rs) (i / 120) []) (i % 120) 0
-    go (yes h) ih =
-        let q : i / 120 ≡ 0 = omega arith in
-        let c : i % 120 ≡ i = omega arith in
-        rw (q, c) (List·getD-append r (flat rs) 0 i (omega (arith, z .0)))
-    go (no h) ih =
-        let e : i ≡ length r + (i - 120) = omega (arith, z .0) in
-        let q : i / 120 ≡ suc ((i - 120) / 120) = omega arith in
-        let c : i % 120 ≡ (i - 120) % 120 = omega arith in
-        rw (q, c) (ap (λ (j : ℕ). getD (r ++ flat rs) j 0) e ∙ (getD-append-add r (flat rs) (i - 120) 0 ∙ ih))
 
 -- The counts in the tail, as they are written.
 abbrev counted : State → List ℕ → List ℕ

@@ -17,13 +17,13 @@ use Rattle.rules.specs.Step.{next}
 use Rattle.judge.specs.declared.Verdict.the-variants.{Accepted}
 use Rattle.judge.specs.Flow.{recordsOf, headNameOf, judged}
 use Rattle.judge.specs.Plain.{Whole, stateAfter}
-use Rattle.rebalance.specs.Rebalance.{flat, Mendable}
+use Rattle.rebalance.specs.Rebalance.{flat, Mendable, refreshed}
 use Rattle.rebalance.proofs.Rebalanced.{mendable-fits}
 use Rattle.rebalance.proofs.Weighed.{mendable-positive}
 use Rattle.rebalance.proofs.Judged.{flat-records, accepted-untouched, accepted-mends}
 use Rattle.find.specs.Line.{lineOf}
 use Rattle.correct.specs.declared.Correction.the-variants.{Made}
-use Rattle.correct.specs.Correction.{sectionOf, refreshed, correctionOf, correctedBytes}
+use Rattle.correct.specs.Correction.{sectionOf, correctionOf, correctedBytes}
 use Rattle.correct.specs.Effect.{withAmounts, recordNamed, debitOf, creditOf}
 use Rattle.correct.proofs.Amended.{amended, amended-own}
 use Rattle.correct.proofs.Mended.{kept-readable}

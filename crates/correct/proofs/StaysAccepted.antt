@@ -15,14 +15,14 @@ use Rattle.judge.specs.Flow.{acceptedWith, recordsOf, headNameOf, judged}
 use Rattle.judge.specs.Plain.{sumOver, lineCountIn, Whole, stateAfter}
 use Rattle.judge.proofs.Accepted.{accepted-means-no-fault}
 use Rattle.judge.proofs.Counts.{lines-after, accepted-lines}
-use Rattle.rebalance.specs.Rebalance.{flat, Mendable}
+use Rattle.rebalance.specs.Rebalance.{flat, Mendable, refreshed}
 use Rattle.rebalance.proofs.Emit.{kept-stands}
 use Rattle.rebalance.proofs.Flat.{name-in-front}
 use Rattle.rebalance.proofs.Judged.{flat-records, length-mended, judged-rebalanced, accepted-mends}
 use Rattle.find.specs.Line.{lineOf}
 use Rattle.correct.specs.declared.Correction.{Correction}
 use Rattle.correct.specs.declared.Correction.the-variants.{Made, Refused}
-use Rattle.correct.specs.Correction.{sectionOf, refreshed, correctionOf, correctedBytes}
+use Rattle.correct.specs.Correction.{sectionOf, correctionOf, correctedBytes}
 use Rattle.correct.specs.Effect.{withAmounts, Call, after}
 use Rattle.correct.proofs.Amended.{amended, kind-amended}
 use Rattle.correct.proofs.Mended.{mended-amended}

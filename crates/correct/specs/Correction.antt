@@ -11,7 +11,7 @@ use Rattle.rules.specs.State.{startState}
 use Rattle.amounts.specs.Amounts.{lineRight}
 use Rattle.judge.specs.Refusal.{Refusal, refusal, noRefusal}
 use Rattle.judge.specs.Flow.{recordsOf}
-use Rattle.rebalance.specs.Rebalance.{rebalanced, allFit, flat}
+use Rattle.rebalance.specs.Rebalance.{allFit, refreshed}
 use Rattle.rebalance.specs.Weigh.{anyNegative}
 use Rattle.find.specs.declared.Found.{Found}
 use Rattle.find.specs.declared.Found.the-variants as Answer
@@ -32,10 +32,6 @@ sectionOf subtype = ofLine 5 (λ s. s) (sectionKind subtype)
 unfoldable pub replaced : ℕ → ℕ → ℕ → ℕ → List ℕ → List ℕ
 replaced k s debit credit f =
     putAt ((k - 1) * 120 + sectionAt s .debit) (digitsOf 15 debit) (putAt ((k - 1) * 120 + sectionAt s .credit) (digitsOf 15 credit) f)
-
--- every stored field of a flow worked out afresh from all its lines
-unfoldable pub refreshed : List ℕ → List ℕ
-refreshed f = flat (rebalanced startState (recordsOf f))
 
 -- 14, then 23, by whether a delega is negative and whether all that is stored has room
 abbrev pub outcomeOf : Bool → Bool → Correction

@@ -54,7 +54,17 @@ pub const TAIL_RECORDS: Field = Field {
 
 const NOWHERE: Field = Field { start: 0, end: 0 };
 
-fn one_field(a: Field) -> Fields
+// No field, and up to three: what the code hands out for a record.
+pub fn no_fields() -> Fields
+    ensures { λ r. ⌜ r ≡ listed [] ⌝ }
+{
+    Fields {
+        count: 0,
+        fields: [NOWHERE, NOWHERE, NOWHERE, NOWHERE],
+    }
+}
+
+pub fn one_field(a: Field) -> Fields
     ensures { λ r. ⌜ r ≡ listed (a ∷ []) ⌝ }
 {
     Fields {
@@ -63,7 +73,7 @@ fn one_field(a: Field) -> Fields
     }
 }
 
-fn two_fields(a: Field, b: Field) -> Fields
+pub fn two_fields(a: Field, b: Field) -> Fields
     ensures { λ r. ⌜ r ≡ listed (a ∷ b ∷ []) ⌝ }
 {
     Fields {
@@ -72,7 +82,7 @@ fn two_fields(a: Field, b: Field) -> Fields
     }
 }
 
-fn three_fields(a: Field, b: Field, c: Field) -> Fields
+pub fn three_fields(a: Field, b: Field, c: Field) -> Fields
     ensures { λ r. ⌜ r ≡ listed (a ∷ b ∷ c ∷ []) ⌝ }
 {
     Fields {
@@ -122,11 +132,6 @@ pub fn fields_of(k: Kind) -> Fields
         Kind::Receipt => one_field(DELEGA_NUMBER),
         Kind::Addressee => one_field(DELEGA_NUMBER),
         Kind::Tail => three_fields(TAIL_DELEGHE, TAIL_SUM, TAIL_RECORDS),
-        Kind::Unknown => {
-            Fields {
-                count: 0,
-                fields: [NOWHERE, NOWHERE, NOWHERE, NOWHERE],
-            }
-        }
+        Kind::Unknown => no_fields(),
     }
 }

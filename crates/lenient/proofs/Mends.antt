@@ -1,6 +1,6 @@
 -- The lenient judgement and the others: records that pass it are mended by rebalancing, where what that writes fits; records that pass every check pass it.
 use Prim.Native.Nat.{ℕ, _+_}
-use mathlib.Core.Path.{_≡_, refl}
+use mathlib.Core.Path.{_≡_, refl, _∙_}
 use mathlib.Core.Bool.{true}
 use mathlib.Core.List.{List, [], _∷_}
 use native.Mathlib.Omega.{arith}
@@ -10,6 +10,7 @@ use Rattle.text.specs.Characters.{firstBad}
 use Rattle.layout.specs.Kinds.{kindIn}
 use Rattle.amounts.specs.declared.Outcome.{Outcome}
 use Rattle.amounts.specs.declared.Outcome.the-variants.{Pass, Fault}
+use Rattle.amounts.specs.Outcomes.{first}
 use Rattle.amounts.proofs.Outcomes.{first-pass}
 use Rattle.order.specs.Stages.{afterTail}
 use Rattle.rules.specs.declared.State.{State}
@@ -19,7 +20,7 @@ use Rattle.rules.specs.Step.{next}
 use Rattle.judge.specs.Plain.{NoFault, stateAfter}
 use Rattle.rebalance.specs.Rebalance.{keptFault, fitsAll, allFit, Sized, Mendable}
 use Rattle.text.proofs.Tests.{both-true}
-use Rattle.rebalance.proofs.Emit.{kept-each, fault-kept}
+use Rattle.rebalance.proofs.Emit.{fault-kept}
 use Rattle.lenient.specs.declared.Lenient.{Lenient}
 use Rattle.lenient.specs.declared.Lenient.the-variants.{Passed, Refused}
 use Rattle.lenient.specs.Lenient.{misfitFault, lenientFault, orRefused, ended, lenientFrom}
@@ -57,13 +58,18 @@ no-misfit : (n : ℕ) → misfitFault 0 0 n ≡ Pass
 unfolding misfitFault
 no-misfit n = rw (ne-eqb 0 (n + 1) (λ h. omega arith))
 
--- A record that passes the checks that rebalancing leaves alone passes leniently.
-kept-lenient : (name : List ℕ) (st : State) (r : List ℕ) → keptFault name st r ≡ Pass → lenientFault name 0 0 st r ≡ Pass
-unfolding lenientFault
-kept-lenient name st r k = rw (kept-each name st r k .characters, no-misfit (st .seen), k)
+-- A check that has passed says nothing when it is made again.
+first-twice : (a b : Outcome) → first a (first a b) ≡ first a b
+first-twice Pass b = refl
+first-twice (Fault n p) b = refl
+
+-- The checks that rebalancing leaves alone speak then.
+pub lenient-kept : (name : List ℕ) (st : State) (r : List ℕ) → lenientFault name 0 0 st r ≡ keptFault name st r
+unfolding lenientFault keptFault
+lenient-kept name st r = rw (no-misfit (st .seen)) (first-twice (charFault (firstBad r)) _)
 
 -- Records that pass every check, up to and with the tail, pass leniently.
 pub strict-lenient : (name : List ℕ) (st : State) (rs : List (List ℕ)) → Sized rs → NoFault name st rs → stateAfter st rs .stage .phase ≡ afterTail → lenientFrom name 0 0 st rs ≡ Passed
 unfolding lenientFrom stateAfter ended
 strict-lenient name st [] l n e = rw (eq-eqb _ _ e)
-strict-lenient name st (r ∷ rs) l n e = rw (kept-lenient name st r (fault-kept st r (l .0) name (n .0))) (strict-lenient name (next st r) rs (l .1) (n .1) e)
+strict-lenient name st (r ∷ rs) l n e = rw (lenient-kept name st r ∙ fault-kept st r (l .0) name (n .0)) (strict-lenient name (next st r) rs (l .1) (n .1) e)

@@ -131,7 +131,7 @@ module _ (st : State) (r : List ℕ) (l : length r ≡ 120) where
   emit-holds = putAll-holds xs r laid-out l
 
   -- What the other checks and the next state read of it stays.
-  emit-kept : (name : List ℕ) → Kept name st (kindIn r) r (emit st r)
+  pub emit-kept : (name : List ℕ) → Kept name st (kindIn r) r (emit st r)
   unfolding emit
   emit-kept name = kept (storing st r) places name st r emit-part
 

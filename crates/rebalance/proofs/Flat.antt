@@ -1,10 +1,11 @@
 -- The bytes of a flow and its records.
-use Prim.Native.Nat.{ℕ, zero, suc, _*_, _/_, _≤_}
+use Prim.Native.Nat.{ℕ, zero, suc, _+_, _-_, _*_, _/_, _%_, _<_, _≤_}
 use mathlib.Core.Path.{_≡_, refl, sym, ap, ap₂, _∙_}
 use mathlib.Core.List.{List, [], _∷_, _++_, append-assoc}
 use native.Mathlib.Omega.{arith}
-use lib.ListN.{length, take, drop, length-append, length-drop, take-append-drop}
-use lib.Seq.{take-at, drop-at, length-take-le, drop-append-le, take-append-le}
+use native.Mathlib.Decide.{decLt}
+use lib.ListN.{length, take, drop, getD, length-append, length-drop, take-append-drop, List·getD-append}
+use lib.Seq.{take-at, drop-at, length-take-le, drop-append-le, take-append-le, getD-append-add}
 use Rattle.judge.specs.Flow.{chunks, recordsOf, headNameOf}
 use Rattle.rebalance.specs.Rebalance.{Sized, flat}
 
@@ -46,3 +47,20 @@ sized-chunks (suc n) s h = (length-take-le 120 s (omega arith), sized-chunks n (
 -- The head's name does not depend on what follows the head.
 pub name-in-front : (r ys : List ℕ) → length r ≡ 120 → headNameOf (r ++ ys) ≡ headNameOf r
 name-in-front r ys l = rw (drop-append-le 19 r ys (omega arith)) (take-append-le 20 (drop 19 r) ys (rw length-drop (omega arith)))
+
+-- The byte of records at an index is that of a record at a column.
+pub flat-byte : (rs : List (List ℕ)) → Sized rs → (i : ℕ) → getD (flat rs) i 0 ≡ getD (getD rs (i / 120) []) (i % 120) 0
+unfolding flat
+flat-byte [] z i = refl
+flat-byte (r ∷ rs) z i = go (decLt i 120) (flat-byte rs (z .1) (i - 120))
+  where
+    go : Dec (i < 120) → getD (flat rs) (i - 120) 0 ≡ getD (getD rs ((i - 120) / 120) []) ((i - 120) % 120) 0 → getD (r ++ flat rs) i 0 ≡ getD (getD (r ∷ rs) (i / 120) []) (i % 120) 0
+    go (yes h) ih =
+        let q : i / 120 ≡ 0 = omega arith in
+        let c : i % 120 ≡ i = omega arith in
+        rw (q, c) (List·getD-append r (flat rs) 0 i (omega (arith, z .0)))
+    go (no h) ih =
+        let e : i ≡ length r + (i - 120) = omega (arith, z .0) in
+        let q : i / 120 ≡ suc ((i - 120) / 120) = omega arith in
+        let c : i % 120 ≡ (i - 120) % 120 = omega arith in
+        rw (q, c) (ap (λ (j : ℕ). getD (r ++ flat rs) j 0) e ∙ (getD-append-add r (flat rs) (i - 120) 0 ∙ ih))

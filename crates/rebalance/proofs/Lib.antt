@@ -11,3 +11,5 @@ pub mod Stores
 pub mod Surveys
 pub mod Passes
 pub mod Outside
+pub mod AsJudged
+pub mod KeptNumbers

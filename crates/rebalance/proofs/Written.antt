@@ -136,7 +136,7 @@ holds-numbers (Value n g v ∷ xs) r f o = let p = both-true _ _ f in rw (holds-
 holds-numbers (Mark n c b ∷ xs) r f o = holds-numbers xs r f (o .1)
 
 -- A held field that fits is right.
-holds-right : (x : Stored) (r : List ℕ) → fitsOne x ≡ true → take (widthOf x) (drop (startOf x) r) ≡ textOf x → right x r ≡ true
+pub holds-right : (x : Stored) (r : List ℕ) → fitsOne x ≡ true → take (widthOf x) (drop (startOf x) r) ≡ textOf x → right x r ≡ true
 holds-right (Value n f v) r h o = eq-eqb _ _ (ap amountOf (holds-number n f v r h o))
 holds-right (Mark n c b) r h o = eq-eqb _ _ (byte-of r c ∙ ap (λ (t : List ℕ). getD t 0 0) o)
 

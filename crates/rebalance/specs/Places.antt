@@ -1,4 +1,4 @@
--- For theorems. The fields of a balance record.
+-- Believed. The fields of a balance record that store something, in the order of position.
 use Prim.Native.Nat.{ℕ, _+_}
 use mathlib.Core.Bool.{cond}
 use mathlib.Core.List.{List, [], _∷_}

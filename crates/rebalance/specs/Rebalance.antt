@@ -14,6 +14,7 @@ use Rattle.layout.specs.declared.Kind.the-variants.{Head, Taxpayer, Domicile, L
 use Rattle.layout.specs.Kinds.{typeIn, kindIn}
 use Rattle.layout.specs.Fields.{delegaNumber, creationDate, fieldsOf, valueOf}
 use Rattle.rules.specs.declared.State.{State}
+use Rattle.rules.specs.State.{startState}
 use Rattle.amounts.specs.declared.Outcome.{Outcome}
 use Rattle.amounts.specs.declared.Outcome.the-variants.{Pass}
 use Rattle.order.specs.Stages.{afterTail}
@@ -22,6 +23,7 @@ use Rattle.order.specs.Order.{standing}
 use Rattle.rules.specs.Stored.{Stored, Value, Mark, storedOf}
 use Rattle.rules.specs.Checks.{charFault, badFields, numberFault, ownFault}
 use Rattle.rules.specs.Step.{next}
+use Rattle.judge.specs.Flow.{recordsOf}
 
 -- The index at which a stored field starts.
 abbrev pub startOf : Stored → ℕ
@@ -71,6 +73,10 @@ allFit st (r ∷ rs) = cond (fitsAll (storedOf st (kindIn r))) (allFit (next st 
 unfoldable pub flat : List (List ℕ) → List ℕ
 flat [] = []
 flat (r ∷ rs) = r ++ flat rs
+
+-- Every stored field of a flow is worked out afresh from all its lines.
+unfoldable pub refreshed : List ℕ → List ℕ
+refreshed f = flat (rebalanced startState (recordsOf f))
 
 -- The numeric fields that are not stored, in the order of position.
 abbrev pub keptFields : Kind → List Field

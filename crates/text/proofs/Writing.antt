@@ -11,7 +11,7 @@ use Rattle.text.proofs.Bytes.{drop-one}
 use Rattle.text.proofs.Numerals.{length-digits}
 
 -- Nothing put changes nothing.
-put-none : (at : ℕ) (l : List ℕ) → putAt at [] l ≡ l
+pub put-none : (at : ℕ) (l : List ℕ) → putAt at [] l ≡ l
 unfolding putAt
 put-none at l = ap (λ (n : ℕ). take at l ++ drop n l) (let h : at + 0 ≡ at = omega arith in h) ∙ take-append-drop at l
 
@@ -41,7 +41,7 @@ unfolding digitsOf
 digits-end at i n l h = rw (let e : i ≡ 0 = omega arith in e) (put-none at l)
 
 -- The first byte of a put may be stored first.
-put-cons : (at b : ℕ) (bs l : List ℕ) → at < length l → putAt at (b ∷ bs) l ≡ putAt (suc at) bs (set l at b)
+pub put-cons : (at b : ℕ) (bs l : List ℕ) → at < length l → putAt at (b ∷ bs) l ≡ putAt (suc at) bs (set l at b)
 unfolding putAt
 put-cons at b bs l h =
     rw (take-suc-set l at b h, drop-set-lt (suc at + length bs) l at b (omega arith), append-assoc)

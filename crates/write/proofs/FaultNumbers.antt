@@ -2,126 +2,47 @@
 use Prim.Native.Nat.{ℕ}
 use mathlib.Core.Path.{_≡_, refl}
 use mathlib.Core.List.{List, [], _∷_}
-use lib.Dec.{eqb, ltb}
-use Rattle.text.specs.declared.Characters.{Characters}
-use Rattle.text.specs.declared.Characters.the-variants.{Allowed, BadAt}
-use Rattle.text.specs.declared.Digits.{Digits}
-use Rattle.text.specs.declared.Digits.the-variants.{Number, NonDigit, TooLong}
 use Rattle.text.specs.Characters.{firstBad}
-use Rattle.text.specs.Numbers.{numberOf}
-use Rattle.layout.specs.declared.Field.{Field}
-use Rattle.layout.specs.declared.RecordType.{RecordType}
 use Rattle.layout.specs.declared.Kind.{Kind}
-use Rattle.layout.specs.declared.Kind.the-variants.{Head, Taxpayer, Domicile, Line, Balance, Payment, Receipt, Addressee, Tail, Unknown}
-use Rattle.layout.specs.Kinds.{typeIn, kindIn}
-use Rattle.layout.specs.Fields.{creationDate, taxCode, supportName, bytesOf, valueOf, delegaNumber}
+use Rattle.layout.specs.Kinds.{kindIn}
+use Rattle.layout.specs.Fields.{valueOf, delegaNumber}
 use Rattle.amounts.specs.declared.Outcome.{Outcome}
 use Rattle.amounts.specs.declared.Outcome.the-variants.{Pass, Fault}
 use Rattle.amounts.specs.Outcomes.{first}
-use Rattle.amounts.specs.Dates.{dateRight}
-use Rattle.amounts.specs.Names.{nameRight, sameBytes}
-use Rattle.taxcode.specs.TaxCodes.{codeRight}
-use Rattle.order.specs.declared.Stage.{Stage}
+use Rattle.amounts.specs.Names.{sameBytes}
 use Rattle.text.specs.Among.{among}
-use Rattle.order.specs.Order.{stands, full, typeStands, standing}
 use Rattle.rules.specs.declared.State.{State}
-use Rattle.rules.specs.Checks.{charFault, orBad, badFields, carried, numberFault, negativeFault, headName, tailName, dateFault, codeFault, ownFault}
-use Rattle.judge.proofs.OwnNumbers.{In, none, has, in-cond, in-first, in-more, line-in}
-use Rattle.rebalance.specs.Rebalance.{keptFields, keptFault}
+use Rattle.rules.specs.Checks.{numberFault}
+use Rattle.judge.proofs.OwnNumbers.{In, none, has, in-cond, in-first}
+use Rattle.rebalance.specs.Rebalance.{keptFault}
+use Rattle.rebalance.proofs.KeptNumbers.{before, lastChecks, characters-in, own-in, kept-in, last-in}
 use Rattle.sheet.specs.Slots.{typeText, subtypeText, slotFault}
 use Rattle.sheet.specs.Sheet.{Entry}
 use Rattle.sheet.specs.Filled.{filled}
 use Rattle.write.specs.Writing.{entryFault}
 use Rattle.write.specs.WhenRefused.{recordNumbers}
 
--- The numbers of the checks that every record has, before those in a list.
-abbrev before : List ℕ → List ℕ
-before ns = 3 ∷ 4 ∷ 6 ∷ 7 ∷ ns
-
-in-before : {ns : List ℕ} {o : Outcome} → In ns o → In (before ns) o
-in-before h = in-more 3 (in-more 4 (in-more 6 (in-more 7 h)))
-
--- 3
-characters-in : (ns : List ℕ) (c : Characters) → In (before ns) (charFault c)
-unfolding among
-characters-in ns Allowed = none
-characters-in ns (BadAt i) = has refl
-
--- 4 and 6
-standing-in : (ns : List ℕ) (p : Stage) (t : RecordType) (k : Kind) → In (before ns) (standing p t k)
-unfolding among standing
-standing-in ns p t k = in-cond (stands p k) (in-cond (full p k) (has refl) none) (in-cond (typeStands p t) (has refl) (has refl))
-
 -- 4
 slot-in : (ns : List ℕ) (k : Kind) (r : List ℕ) → In (before ns) (slotFault k r)
 unfolding among slotFault
 slot-in ns k r = in-cond (sameBytes _ (typeText k)) (in-cond (sameBytes _ (subtypeText k)) none (has refl)) (has refl)
 
--- 7
-fields-in : (ns : List ℕ) (fs : List Field) (r : List ℕ) → In (before ns) (badFields fs r)
-unfolding among badFields
-fields-in ns [] r = none
-fields-in ns (f ∷ fs) r = go (numberOf (bytesOf r f)) (fields-in ns fs r)
-  where
-    go : (d : Digits) {o : Outcome} → In (before ns) o → In (before ns) (orBad d f o)
-    go (Number n) h = h
-    go (NonDigit i) h = has refl
-    go TooLong h = has refl
-
--- 9, 14, 16, 17 and 26
-own-in : (name : List ℕ) (st : State) (k : Kind) (r : List ℕ) → In (9 ∷ 14 ∷ 16 ∷ 17 ∷ 26 ∷ []) (ownFault name st k r)
-unfolding among negativeFault headName tailName dateFault codeFault
-own-in name st Head r = in-first (in-cond (nameRight (bytesOf r supportName)) none (has refl)) (in-cond (dateRight (valueOf r creationDate)) none (has refl))
-own-in name st Taxpayer r = in-cond (codeRight (bytesOf r taxCode)) none (has refl)
-own-in name st Domicile r = none
-own-in name st (Line s) r = line-in _ s _ _
-own-in name st (Balance s) r = none
-own-in name st Payment r = in-cond (ltb (st .money .delega .all .debit) (st .money .delega .all .credit)) (has refl) none
-own-in name st Receipt r = none
-own-in name st Addressee r = none
-own-in name st Tail r = in-cond (sameBytes (bytesOf r supportName) name) none (has refl)
-own-in name st Unknown r = none
-
--- 8
-carried-in : (d n : ℕ) → In (8 ∷ 9 ∷ 14 ∷ 16 ∷ 17 ∷ 26 ∷ []) (carried d n)
-unfolding among carried
-carried-in d n = in-cond (eqb n d) none (has refl)
-
-number-in : (d : ℕ) (k : Kind) (n : ℕ) → In (8 ∷ 9 ∷ 14 ∷ 16 ∷ 17 ∷ 26 ∷ []) (numberFault d k n)
-unfolding numberFault
-number-in d Head n = none
-number-in d Taxpayer n = carried-in _ n
-number-in d Domicile n = carried-in d n
-number-in d (Line s) n = carried-in d n
-number-in d (Balance s) n = carried-in d n
-number-in d Payment n = carried-in d n
-number-in d Receipt n = carried-in d n
-number-in d Addressee n = carried-in d n
-number-in d Tail n = none
-number-in d Unknown n = none
-
--- The checks on the delega number and on what is a record's own.
-abbrev pub lastChecks : List ℕ → State → List ℕ → Outcome
-lastChecks name st r = first (numberFault (st .deleghe) (kindIn r) (valueOf r delegaNumber)) (ownFault name st (kindIn r) r)
-
 -- A fault of a record to be written is 3, 4, 6 or 7, or that of the last checks of a record of its slot's kind.
 pub entry-in : (ns : List ℕ) (name : List ℕ) (st : State) (e : Entry) → (slotFault (e .slot) (filled name e) ≡ Pass → In ns (lastChecks name st (filled name e))) → In (3 ∷ 4 ∷ 6 ∷ 7 ∷ ns) (entryFault name st e)
-unfolding entryFault keptFault
+unfolding entryFault
 entry-in ns name st e h = in-first (characters-in ns (firstBad r)) (go (slotFault (e .slot) r) (slot-in ns (e .slot) r) h)
   where
     r : List ℕ
     r = filled name e
 
     go : (o : Outcome) → In (before ns) o → (o ≡ Pass → In ns (lastChecks name st r)) → In (before ns) (first o (keptFault name st r))
-    go Pass i f =
-        in-first (characters-in ns (firstBad r)) (in-first (standing-in ns (st .stage) (typeIn r) (kindIn r)) (in-first (fields-in ns (keptFields (kindIn r)) r) (in-before (f refl))))
+    go Pass i f = kept-in ns name st r (f refl)
     go (Fault n p) i f = i
 
 -- So it has one of the numbers named, or 8.
 pub entry-number : (name : List ℕ) (st : State) (e : Entry) → In (3 ∷ 4 ∷ 6 ∷ 7 ∷ 8 ∷ 9 ∷ 14 ∷ 16 ∷ 17 ∷ 26 ∷ []) (entryFault name st e)
 entry-number name st e =
-    let r = filled name e in
-    entry-in (8 ∷ 9 ∷ 14 ∷ 16 ∷ 17 ∷ 26 ∷ []) name st e (λ p. in-first (number-in (st .deleghe) (kindIn r) (valueOf r delegaNumber)) (in-more 8 (own-in name st (kindIn r) r)))
+    entry-in (8 ∷ 9 ∷ 14 ∷ 16 ∷ 17 ∷ 26 ∷ []) name st e (λ p. last-in name st (filled name e))
 
 -- It has not 8, where a record of its slot's kind passes the check on the delega number.
 pub entry-number-right : (name : List ℕ) (st : State) (e : Entry) → (slotFault (e .slot) (filled name e) ≡ Pass → numberFault (st .deleghe) (kindIn (filled name e)) (valueOf (filled name e) delegaNumber) ≡ Pass) → In recordNumbers (entryFault name st e)

@@ -1,6 +1,7 @@
 -- `correct::replace` meets its contract: where a delega turns negative or a value does not fit, putting the old bytes back undoes the writing.
+use Rattle.rebalance.specs.Rebalance.{refreshed}
 use Rattle.correct.specs.declared.Correction.{Correction}
-use Rattle.correct.specs.Correction.{refreshed, bytesAfter, weighed}
+use Rattle.correct.specs.Correction.{bytesAfter, weighed}
 use Rattle.correct.specs.Writing.{amountsPut}
 use Rattle.correct.proofs.Undone.{restored, whole-amounts, weighed-by, made-fits}
 use mathlib.Core.List.{List}

@@ -59,6 +59,9 @@ three-fields-requires c κs = search needs
 enum-told-8 : tie.Need-enum-told-8
 enum-told-8 c = search needs
 
+no-fields-requires : tie.Need-no-fields-requires
+no-fields-requires c κs = search needs
+
 returns : tie.Need-returns
 returns c = rw (c .before .enum-told .given .1) (c .one-field .ensures)
 
@@ -87,7 +90,7 @@ returns-9 : tie.Need-returns-9
 returns-9 c = rw (c .before .enum-told7 .given .1) (c .three-fields .ensures)
 
 returns-10 : tie.Need-returns-10
-returns-10 c = rw (c .enum-told8 .given .1)
+returns-10 c = rw (c .before .enum-told8 .given .1) (c .no-fields .ensures)
 
 pub fields-of-spec : {M : Type 1} → statement M
 fields-of-spec =
@@ -112,6 +115,7 @@ fields-of-spec =
     enum-told-7
     three-fields-requires
     enum-told-8
+    no-fields-requires
     returns
     returns-2
     returns-3
