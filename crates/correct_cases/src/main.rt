@@ -6,15 +6,6 @@ use correct::Correction;
 use desk::Numbers;
 use libc::STDOUT_FILENO;
 
-// Whether the bytes are the expected ones.
-fn print_comparison(flow: &[u8], expected: &[u8]) {
-    if check::same(flow, expected) {
-        io::write_all(STDOUT_FILENO, b"SAME\n");
-    } else {
-        io::write_all(STDOUT_FILENO, b"DIFFERENT\n");
-    }
-}
-
 // Makes a call, and prints what comes of it.
 fn make(flow: &mut [u8], expected: &[u8], call: Numbers) {
     match correct::correct(
@@ -27,12 +18,12 @@ fn make(flow: &mut [u8], expected: &[u8], call: Numbers) {
     ) {
         Correction::Made => {
             io::write_all(STDOUT_FILENO, b"MADE\n");
-            print_comparison(flow, expected);
+            desk::print_comparison(flow, expected);
             desk::print_judgement(judge::judge(flow));
         }
         Correction::Refused(number, at, position) => {
             desk::print_refusal(number, at, position);
-            print_comparison(flow, expected);
+            desk::print_comparison(flow, expected);
         }
     }
 }

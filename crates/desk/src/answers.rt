@@ -55,3 +55,25 @@ pub fn print_examined(records: usize, calls: usize) {
     io::print_decimal(STDOUT_FILENO, calls as u64);
     io::write_all(STDOUT_FILENO, b"\n");
 }
+
+// A field that a rebalancing changed: the number of its record, and where it starts.
+fn print_changed(at: u64, start: u64) {
+    io::write_all(STDOUT_FILENO, b"CHANGED ");
+    io::print_decimal(STDOUT_FILENO, at);
+    io::write_all(STDOUT_FILENO, b" ");
+    io::print_decimal(STDOUT_FILENO, start);
+    io::write_all(STDOUT_FILENO, b"\n");
+}
+
+// The fields that a rebalancing changed: the first `count` pairs of the list, so far as it has them.
+pub fn print_changes(list: &[u64], count: usize) {
+    let mut i: usize = 0;
+    while i < count {
+        if list.len() / 2 <= i {
+            break;
+        }
+        let at = 2 * i;
+        print_changed(list[at], list[at + 1]);
+        i += 1;
+    }
+}

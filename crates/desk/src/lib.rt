@@ -6,8 +6,10 @@ mod answers;
 mod cases;
 mod messages;
 mod reading;
+mod replacing;
 mod saving;
 
+pub use answers::print_changes;
 pub use answers::print_delega;
 pub use answers::print_examined;
 pub use answers::print_judgement;
@@ -18,6 +20,7 @@ pub use cases::next_case;
 pub use cases::number_of;
 pub use cases::numbers_of;
 pub use cases::open_cases;
+pub use cases::print_comparison;
 pub use cases::read_next;
 pub use messages::begin_line;
 pub use messages::misused;
@@ -25,14 +28,28 @@ pub use messages::no_number;
 pub use messages::no_portion;
 pub use reading::number_at;
 pub use reading::read_flow;
-pub use reading::read_to_end;
+pub use reading::read_open;
 pub use reading::read_word;
-pub use reading::unread;
+pub use replacing::open_old;
+pub use replacing::replace;
 pub use saving::is_link;
 pub use saving::put_name;
 pub use saving::stored;
 pub use saving::tell_of;
 pub use saving::unsaved;
+
+// Whose a file is, and who may use it.
+pub struct Access {
+    pub owner: u32,
+    pub group: u32,
+    pub mode: u32,
+}
+
+// A file that is to be replaced by another: its descriptor, negative where it cannot be, and its access.
+pub struct Old {
+    pub fd: i32,
+    pub access: Access,
+}
 
 // The five numbers of a run case's call.
 pub struct Numbers {

@@ -22,7 +22,7 @@ fn is_dash(word: &[u8]) -> bool {
 }
 
 // One line on standard error for what could not be read, with the system's reason.
-pub fn unread(command: &[u8], word: &[u8]) {
+fn unread(command: &[u8], word: &[u8]) {
     begin_line(command);
     io::write_all(STDERR_FILENO, b"cannot read ");
     if is_dash(word) {
@@ -42,7 +42,7 @@ fn opened(word: &[u8]) -> i32 {
 
 // Reads to the end, or until the room is full, and answers how many bytes it put there; -1 where a read fails. Nothing is read after an end, so that a
 // clerk who types a flow ends it once.
-pub fn read_to_end(fd: i32, room: &mut [u8]) -> isize
+fn read_to_end(fd: i32, room: &mut [u8]) -> isize
     ensures { λ r. ⌜ Moved (length (now (room .entry))) r ⌝ }
 {
     let mut done: usize = 0;
@@ -60,6 +60,17 @@ pub fn read_to_end(fd: i32, room: &mut [u8]) -> isize
     done as isize
 }
 
+// Reads an open file, which goes by the word, as `read_to_end` does; where a read fails, one line on standard error says so.
+pub fn read_open(command: &[u8], word: &[u8], fd: i32, room: &mut [u8]) -> isize
+    ensures { λ r. ⌜ Moved (length (now (room .entry))) r ⌝ }
+{
+    let got = read_to_end(fd, room);
+    if got < 0 {
+        unread(command, word);
+    }
+    got
+}
+
 // Reads what a word names. Negative, with one line on standard error, where it cannot be read. The line comes before the close, which might set another reason.
 fn read_named(command: &[u8], word: &[u8], room: &mut [u8]) -> isize
     ensures { λ r. ⌜ Moved (length (now (room .entry))) r ⌝ }
@@ -69,10 +80,7 @@ fn read_named(command: &[u8], word: &[u8], room: &mut [u8]) -> isize
         unread(command, word);
         return -1;
     }
-    let got = read_to_end(fd, room);
-    if got < 0 {
-        unread(command, word);
-    }
+    let got = read_open(command, word, fd, room);
     libc::close(fd);
     got
 }

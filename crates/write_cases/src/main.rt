@@ -26,26 +26,17 @@ fn print_length(length: usize) {
     io::write_all(STDOUT_FILENO, b"\n");
 }
 
-// Whether the room is the expected one.
-fn print_comparison(room: &[u8], expected: &[u8]) {
-    if check::same(room, expected) {
-        io::write_all(STDOUT_FILENO, b"SAME\n");
-    } else {
-        io::write_all(STDOUT_FILENO, b"DIFFERENT\n");
-    }
-}
-
 // Writes the flow of a sheet, and prints what comes of it.
 fn make(sheet: &[u8], room: &mut [u8], expected: &[u8]) {
     match write::write(sheet, &mut *room) {
         Writing::Written(length) => {
             print_length(length);
-            print_comparison(room, expected);
+            desk::print_comparison(room, expected);
             desk::print_judgement(judge::judge(&room[..length]));
         }
         Writing::Refused(number, at, position) => {
             desk::print_refusal(number, at, position);
-            print_comparison(room, expected);
+            desk::print_comparison(room, expected);
         }
     }
 }

@@ -1,4 +1,4 @@
--- `f24_correct::status_of` meets its contract: a walk of its MIR, by hand. The struct that `unknown` gives is stored in a local, which is lent to `fstat` for a lifetime of the call; it comes back at some struct, which is returned.
+-- `desk::replacing::status_of` meets its contract: a walk of its MIR, by hand. The struct that `unknown` gives is stored in a local, which is lent to `fstat` for a lifetime of the call; it comes back at some struct, which is returned.
 -- All that the proof knows of `unknown` and of `fstat` is that each meets its contract. Assumes nothing.
 use mathlib.Core.Path.{refl}
 use mathlib.Core.List.{List, [], _∷_}
@@ -45,14 +45,14 @@ use Rattle.libc.proofs.fstat as fstat
 use Rattle.libc.proofs.fstat.Symbol as fstat-def
 use Rattle.libc.proofs.fstat.Symbol.{name as #libc·fstat}
 use Rattle.libc.proofs.fstat.Met as fstat-thm
-use Rattle.f24_correct.proofs.unknown as unknown
-use Rattle.f24_correct.proofs.unknown.Symbol as unknown-def
-use Rattle.f24_correct.proofs.unknown.Symbol.{name as #f24-correct·unknown}
-use Rattle.f24_correct.proofs.unknown.Met as unknown-thm
-use Rattle.f24_correct.proofs.status_of.Key.{name as #f24-correct·status-of}
-use Rattle.f24_correct.proofs.status_of as status-of
-use Rattle.f24_correct.proofs.status_of.Statement as stated
-use Rattle.f24_correct.proofs.status_of.Code as code
+use Rattle.desk.proofs.replacing.unknown as unknown
+use Rattle.desk.proofs.replacing.unknown.Symbol as unknown-def
+use Rattle.desk.proofs.replacing.unknown.Symbol.{name as #desk·replacing·unknown}
+use Rattle.desk.proofs.replacing.unknown.Met as unknown-thm
+use Rattle.desk.proofs.replacing.status_of.Key.{name as #desk·replacing·status-of}
+use Rattle.desk.proofs.replacing.status_of as status-of
+use Rattle.desk.proofs.replacing.status_of.Statement as stated
+use Rattle.desk.proofs.replacing.status_of.Code as code
 
 abbrev stayed : Stays (status-of.ended .signature .params) (status-of.ended .kept)
 stayed = (stay-none (λ _. i32) yes, tt)
@@ -116,7 +116,7 @@ module _ {M : Type 1} (𝓤 : URA M) (H : Heap 𝓤) (A : Atoms 𝓤) (W : Given
       qed W (‵ (S.the-row .own y (mach y ∷ [])) ∷ []) ∵ suffices ! _ (ends-at 𝓤 H A status-of.ended stayed (status-of.clauses 𝓤 H A mem run) W ((tt, tt, tt, (fd, tt), (sint-vals w32 fd, tt)), tt) (mach y) y (tt, tt) (tt, tt)) $
       nothing ! $ owned ! i32 (Is i32) (sint-makes 𝓤 H A W w32) fd _ known $ fjoin ! $ join ! $ nothing ! $ join ! $ frame ! $ done !
 
-  module _ (C : Calls 𝓤 H) (Λ : Loops 𝓤 H) (fm : FmC 𝓤 H (W .laws) C) (known-unknown : Triple 𝓤 (C #f24-correct·unknown) (Unknown 𝓤 H A W mem run)) (known-fstat : Triple 𝓤 (C #libc·fstat) (Fstat 𝓤 H A W mem run)) where
+  module _ (C : Calls 𝓤 H) (Λ : Loops 𝓤 H) (fm : FmC 𝓤 H (W .laws) C) (known-unknown : Triple 𝓤 (C #desk·replacing·unknown) (Unknown 𝓤 H A W mem run)) (known-fstat : Triple 𝓤 (C #libc·fstat) (Fstat 𝓤 H A W mem run)) where
     walk : ent 𝓤 (onEntry 𝓤 H A status-of.signature tt tt (fd, tt) (sint-vals w32 fd, tt)) (WpFn 𝓤 H C Λ code.function (sint-vals w32 fd) Post)
     walk =
         qed W (‵ ftrue ∷ ‵ (owns (i32 ∷ []) (fd, tt) (sint-vals w32 fd, tt)) ∷ []) ∵ enter ! C Λ code.function (sint-vals w32 fd) _ $
@@ -148,13 +148,13 @@ module _ {M : Type 1} (𝓤 : URA M) (H : Heap 𝓤) (A : Atoms 𝓤) (W : Given
         keep ! (0 ∷ []) $ by ! (exits y)))))))))))))))))
 
 module _ {M : Type 1} (𝓤 : URA M) (H : Heap 𝓤) (A : Atoms 𝓤) (W : Given 𝓤 H A) (mem : Memory → SProp 𝓤) (run : Routine → Fun 𝓤) where
-  status-of-walks : (C : Calls 𝓤 H) (Λ : Loops 𝓤 H) → FmC 𝓤 H (W .laws) C → Triple 𝓤 (C #f24-correct·unknown) (Unknown 𝓤 H A W mem run) → Triple 𝓤 (C #libc·fstat) (Fstat 𝓤 H A W mem run)
+  status-of-walks : (C : Calls 𝓤 H) (Λ : Loops 𝓤 H) → FmC 𝓤 H (W .laws) C → Triple 𝓤 (C #desk·replacing·unknown) (Unknown 𝓤 H A W mem run) → Triple 𝓤 (C #libc·fstat) (Fstat 𝓤 H A W mem run)
       → Walks 𝓤 H A status-of.ended stayed (WpFn 𝓤 H C Λ code.function) (status-of.clauses 𝓤 H A mem run)
   status-of-walks C Λ fm known-unknown known-fstat = walked 𝓤 H A status-of.ended stayed (status-of.clauses 𝓤 H A mem run) (WpFn 𝓤 H C Λ code.function) (λ κs. (sint-vals w32, tt)) (λ κs. (sint-tells w32, tt))
       (λ κs qs bounds a g are. via 𝓤 _ (fst∗ 𝓤 _ (emp 𝓤)) (walk 𝓤 H A W mem run (a .0) (are .0) C Λ fm known-unknown known-fstat))
 
 status-of-meets : {M : Type 1} (𝓤 : URA M) (H : Heap 𝓤) (A : Atoms 𝓤) (W : Given 𝓤 H A) (mem : Memory → SProp 𝓤) (run : Routine → Fun 𝓤) (𝓣 : Tables 𝓤 H)
-    → Triple 𝓤 (𝓣 .C #f24-correct·unknown) (Unknown 𝓤 H A W mem run) → Triple 𝓤 (𝓣 .C #libc·fstat) (Fstat 𝓤 H A W mem run)
+    → Triple 𝓤 (𝓣 .C #desk·replacing·unknown) (Unknown 𝓤 H A W mem run) → Triple 𝓤 (𝓣 .C #libc·fstat) (Fstat 𝓤 H A W mem run)
     → Meets 𝓤 H A status-of.signature (WpFn 𝓤 H (𝓣 .C) (𝓣 .Λ) code.function) (status-of.spec 𝓤 H A mem run)
 status-of-meets 𝓤 H A W mem run 𝓣 known-unknown known-fstat =
     walk-meets 𝓤 H A status-of.ended stayed W (goes-none 𝓤 H A W 0 (λ _. i32) yes (λ κs x f. refl), tt) (status-of.clauses 𝓤 H A mem run) (WpFn 𝓤 H (𝓣 .C) (𝓣 .Λ) code.function) (WpFn-mono 𝓤 H (W .laws) 𝓣 code.function)
@@ -164,7 +164,7 @@ pub status-of-spec : {M : Type 1} → stated.statement M
 unfolding code.routine tablesOf
 status-of-spec 𝓤 H 𝓜 𝓖 𝓡 =
     entered 𝓤 H (tripleOf 𝓤 H (𝓖 .A) status-of.signature (status-of.spec 𝓤 H (𝓖 .A) (𝓜 .mem) (𝓡 .run)))
-    (tables 𝓤 H 𝓜 𝓡 code.env .C) (tables 𝓤 H 𝓜 𝓡 code.env .Λ) #f24-correct·status-of code.function (code.unfolded 𝓤 H 𝓜 𝓡)
+    (tables 𝓤 H 𝓜 𝓡 code.env .C) (tables 𝓤 H 𝓜 𝓡 code.env .Λ) #desk·replacing·status-of code.function (code.unfolded 𝓤 H 𝓜 𝓡)
     (status-of-meets 𝓤 H (𝓖 .A) (givenOf 𝓤 H 𝓜 𝓖) (𝓜 .mem) (𝓡 .run) (tablesOf 𝓤 H 𝓜 (tables 𝓤 H 𝓜 𝓡 code.env))
-    (cited 𝓤 H (Unknown 𝓤 H (𝓖 .A) (givenOf 𝓤 H 𝓜 𝓖) (𝓜 .mem) (𝓡 .run)) 𝓜 𝓡 code.env #f24-correct·unknown unknown-def.routine code.calls-f24-correct·unknown (unknown-thm.met 𝓤 H 𝓜 𝓖 𝓡))
+    (cited 𝓤 H (Unknown 𝓤 H (𝓖 .A) (givenOf 𝓤 H 𝓜 𝓖) (𝓜 .mem) (𝓡 .run)) 𝓜 𝓡 code.env #desk·replacing·unknown unknown-def.routine code.calls-desk·replacing·unknown (unknown-thm.met 𝓤 H 𝓜 𝓖 𝓡))
     (cited 𝓤 H (Fstat 𝓤 H (𝓖 .A) (givenOf 𝓤 H 𝓜 𝓖) (𝓜 .mem) (𝓡 .run)) 𝓜 𝓡 code.env #libc·fstat fstat-def.routine code.calls-libc·fstat (fstat-thm.met 𝓤 H 𝓜 𝓖 𝓡)))
