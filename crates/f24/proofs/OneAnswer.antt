@@ -4,7 +4,7 @@ use mathlib.Core.Path.{_≡_, sym, _∙_}
 use mathlib.Core.List.{List}
 use Rattle.portion.specs.Portion.{startProgress}
 use Rattle.handed.specs.Room.{progressNumbers}
-use Rattle.f24.specs.Linked.{codeOr, roomOr, judgeCode, judgeRoom, delegaCode, delegaRoom, findCode, findRoom, correctCode, correctFlow, correctRoom, writeCode, writeRoom, writeAnswer, portionCode, portionState, portionRoom}
+use Rattle.f24.specs.Linked.{codeOr, roomOr, judgeCode, judgeRoom, delegaCode, delegaRoom, findCode, findRoom, correctCode, correctFlow, correctRoom, writeCode, writeRoom, writeAnswer, rebalanceCode, rebalanceFlow, rebalanceList, rebalanceAnswer, portionCode, portionState, portionRoom}
 
 -- `f24_judge`: the number returned, and the room
 pub one-judge : (flow room : List ℕ) (a b : ℕ) (x y : List ℕ) →
@@ -41,6 +41,15 @@ module _ (sheet room answer : List ℕ) where
 
   pub one-write : (a b : ℕ) (f g x y : List ℕ) → Writes a f x → Writes b g y → (a ≡ b) × (f ≡ g) × (x ≡ y)
   one-write a b f g x y p q = (p .0 ∙ sym (q .0), p .1 ∙ sym (q .1), p .2 ∙ sym (q .2))
+
+-- `f24_rebalance`: the number returned, the flow, the list, and the answer
+module _ (flow list answer : List ℕ) where
+  -- what its contract allows
+  abbrev pub Rebalances : ℕ → List ℕ → List ℕ → List ℕ → Type 0
+  Rebalances code f l x = (code ≡ rebalanceCode flow list answer) × (f ≡ rebalanceFlow flow list answer) × (l ≡ rebalanceList flow list answer) × (x ≡ rebalanceAnswer flow list answer)
+
+  pub one-rebalance : (a b : ℕ) (f g l m x y : List ℕ) → Rebalances a f l x → Rebalances b g m y → (a ≡ b) × (f ≡ g) × (l ≡ m) × (x ≡ y)
+  one-rebalance a b f g l m x y p q = (p .0 ∙ sym (q .0), p .1 ∙ sym (q .1), p .2 ∙ sym (q .2), p .3 ∙ sym (q .3))
 
 -- `f24_start`: the number returned, and the state
 pub one-start : (state : List ℕ) (a b : ℕ) (x y : List ℕ) →

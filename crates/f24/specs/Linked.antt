@@ -22,6 +22,9 @@ use Rattle.correct.specs.Correction.{refusalMade, correctionOf, correctedBytes}
 use Rattle.write.specs.declared.Writing.{Writing}
 use Rattle.write.specs.declared.Writing.the-variants as Flow
 use Rattle.write.specs.Writing.{refusalWritten, writingOf, roomAfter}
+use Rattle.mend.specs.declared.Mending.{Mending}
+use Rattle.mend.specs.declared.Mending.the-variants as Listing
+use Rattle.mend.specs.Mending.{refusalMended, mendingOf, mendedFlow, mendedList}
 
 -- A room of fewer than n numbers returns 100, and any other a code.
 unfoldable pub codeOr : ℕ → List ℕ → ℕ → ℕ
@@ -104,6 +107,27 @@ writeAnswer sheet room answer = roomOr 2 answer (answerNumbers (refusalWritten (
 -- It leaves the room as it came where the answer is too short, and else writes the flow into it.
 unfoldable pub writeRoom : List ℕ → List ℕ → List ℕ → List ℕ
 writeRoom sheet room answer = cond (ltb (length answer) 2) room (roomAfter sheet room)
+
+-- A flow that is rebalanced writes the number of fields that are listed.
+abbrev pub mendedNumbers : Mending → List ℕ
+mendedNumbers (Listing.Mended n) = n ∷ []
+mendedNumbers (Listing.Refused n r p) = []
+
+-- `f24_rebalance` returns 100 for an answer of fewer than 2 numbers, and else what the rebalancing of the flow with that list says.
+unfoldable pub rebalanceCode : List ℕ → List ℕ → List ℕ → ℕ
+rebalanceCode f list answer = codeOr 2 answer (refusalMended (mendingOf f list) .number)
+
+-- It leaves such an answer as it came, and else writes the number of fields or the refusal.
+unfoldable pub rebalanceAnswer : List ℕ → List ℕ → List ℕ → List ℕ
+rebalanceAnswer f list answer = roomOr 2 answer (answerNumbers (refusalMended (mendingOf f list)) (mendedNumbers (mendingOf f list)))
+
+-- It leaves the flow as it came where the answer is too short, and else rebalances it.
+unfoldable pub rebalanceFlow : List ℕ → List ℕ → List ℕ → List ℕ
+rebalanceFlow f list answer = cond (ltb (length answer) 2) f (mendedFlow f list)
+
+-- It leaves the list as it came where the answer is too short, and else lists the fields that changed.
+unfoldable pub rebalanceList : List ℕ → List ℕ → List ℕ → List ℕ
+rebalanceList f list answer = cond (ltb (length answer) 2) list (mendedList f list)
 
 -- A judgement that has not ended returns 101, and a foreign state 102.
 abbrev pub courseCode : Course → ℕ

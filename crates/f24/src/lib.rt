@@ -1,5 +1,5 @@
-// The linkable library: a flow judged, at once or by portions, one delega, one line, a correction, and a flow written from a sheet, with the answer in a room of
-// numbers that the caller lends.
+// The linkable library: a flow judged, at once or by portions, one delega, one line, a correction, a flow written from a sheet, and one rebalanced, with the answer
+// in a room of numbers that the caller lends.
 // Each function returns 0, the number of a refusal, or 100 where a room is too short; the judgement by portions also 101 where it has not ended and 102 where it is
 // given a foreign state. The numbers behind those that a function writes stay as they came.
 ghost use mathlib.Core.Path.{_≡_};
@@ -12,12 +12,14 @@ ghost use Rattle.handed.specs.Room.{progressNumbers};
 ghost use Rattle.f24.specs.Linked.{codeOr, roomOr, summaryNumbers, delegaNumbers, refusalNumbers};
 ghost use Rattle.f24.specs.Linked.{judgeCode, judgeRoom, delegaCode, delegaRoom, findCode, findRoom, correctCode, correctRoom, correctFlow};
 ghost use Rattle.f24.specs.Linked.{writeCode, writeRoom, writeAnswer};
+ghost use Rattle.f24.specs.Linked.{rebalanceCode, rebalanceFlow, rebalanceList, rebalanceAnswer};
 ghost use Rattle.f24.specs.Linked.{courseCode, portionNumbers, handedBack, portionCode, portionState, portionRoom};
 use correct::Correction;
 use delega::DelegaAnswer;
 use find::Found;
 use judge::Summary;
 use judge::Verdict;
+use mend::Mending;
 use portion::Course;
 use portion::Portion;
 use write::Writing;
@@ -39,6 +41,8 @@ const FIND_ROOM: usize = 2;
 const CORRECT_ROOM: usize = 2;
 
 const WRITE_ROOM: usize = 2;
+
+const REBALANCE_ROOM: usize = 2;
 
 const PORTION_ROOM: usize = 15;
 
@@ -212,6 +216,30 @@ pub extern "C" fn f24_write(sheet: &[u8], room: &mut [u8], answer: &mut [u64]) -
             0
         }
         Writing::Refused(number, at, position) => {
+            put_refusal(&mut *answer, at, position);
+            number
+        }
+    }
+}
+
+// Rebalances a flow, and lists each field that changed by record and start, two numbers for each. The answer is how many these are.
+#[no_mangle]
+pub extern "C" fn f24_rebalance(flow: &mut [u8], changed: &mut [u64], answer: &mut [u64]) -> u64
+    ensures { λ r. ⌜ (r ≡ rebalanceCode (now (flow .entry)) (now (changed .entry)) (now (answer .entry)))
+        × (now (flow .exit) ≡ rebalanceFlow (now (flow .entry)) (now (changed .entry)) (now (answer .entry)))
+        × (now (changed .exit) ≡ rebalanceList (now (flow .entry)) (now (changed .entry)) (now (answer .entry)))
+        × (now (answer .exit) ≡ rebalanceAnswer (now (flow .entry)) (now (changed .entry)) (now (answer .entry))) ⌝ }
+{
+    if answer.len() < REBALANCE_ROOM {
+        return NO_ROOM;
+    }
+    match mend::mend(&mut *flow, &mut *changed) {
+        Mending::Mended(count) => {
+            let numbers = [count as u64];
+            state::put(&mut *answer, &numbers);
+            0
+        }
+        Mending::Refused(number, at, position) => {
             put_refusal(&mut *answer, at, position);
             number
         }

@@ -1,0 +1,5 @@
+pub mod Changes
+pub mod Mending
+pub mod Inner
+pub mod WhenRefused
+pub mod Effect
