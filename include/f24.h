@@ -1,4 +1,4 @@
-/* f24.h: CBI F24 flows, judged at once or by portions, corrected and written from working sheets.
+/* f24.h: CBI F24 flows, judged at once or by portions, corrected, rebalanced and written from working sheets.
  *
  * The functions of the static library libf24.a, for C and all that speaks C on x86-64 Linux. docs/LINKING.md says how
  * to build and link it.
@@ -7,26 +7,26 @@
  * from 1. Amounts are whole cents.
  *
  * Every function takes any bytes of any length as a flow or a sheet and any number as a number: it asks nothing but that
- *   - flow, sheet and room point to as many bytes as their lengths say, and answer and state, aligned as uint64_t is,
- *     to answer_len and state_len numbers;
+ *   - flow, sheet and room point to as many bytes as their lengths say, and answer, state and changed, aligned as
+ *     uint64_t is, to answer_len, state_len and changed_len numbers;
  *   - no pointer is null, not even where its length is 0;
  *   - none of them overlaps another, and nobody else writes to them during the call.
  * Nothing is allocated, kept between calls or printed: calls from several threads do not meet, so long as what they
  * are lent does not. What a judgement by portions goes on from is in the state, which the caller keeps.
  *
  * What a function returns:
- *   0             accepted, found, made, written or started: see each function for the answer
- *   1 to 26       the number of the refusal, as docs/REFUSALS.md lists them. answer[0] is then the record and answer[1]
+ *   0             accepted, found, made, rebalanced, written or started: see each function for the answer
+ *   1 to 27       the number of the refusal, as docs/REFUSALS.md lists them. answer[0] is then the record and answer[1]
  *                 the position, both 0 where the refusal has no place; nothing else is written. f24_judge_portion has
  *                 the number of records examined before them
- *   100           there is room for too few numbers in answer or in state (F24_NO_ROOM): nothing was read, written or
- *                 corrected
+ *   100           there is room for too few numbers in answer or in state (F24_NO_ROOM): nothing was read, written,
+ *                 corrected or rebalanced. A list of changed fields that is too short is 27, a refusal
  *   101           the judgement by portions has not ended yet (F24_NOT_ENDED)
  *   102           the state is foreign: no judgement by portions of this flow handed it back (F24_FOREIGN)
  * 101 and 102 come from f24_judge_portion alone.
  *
- * Numbers of answer and of state beyond those that are written stay as they were, and so does every byte of a flow that
- * is not corrected and every byte of a room that no flow is written to.
+ * Numbers of answer, of state and of changed beyond those that are written stay as they were, and so does every byte
+ * of a flow that is neither corrected nor rebalanced and every byte of a room that no flow is written to.
  *
  * The sections stand in this order everywhere: Erario (lines 40-01), INPS (40-03), Regioni (40-05), IMU and local
  * taxes (40-07), identifying elements (40-17).
@@ -57,11 +57,15 @@ extern "C" {
 #define F24_DELEGA_ROOM 14
 #define F24_FIND_ROOM 2
 #define F24_CORRECT_ROOM 2
+#define F24_REBALANCE_ROOM 2
 #define F24_WRITE_ROOM 2
 #define F24_PORTION_ROOM 15
 
 /* How many numbers a state is. */
 #define F24_STATE_ROOM 53
+
+/* A list of so many numbers is long enough for every flow that is rebalanced: four fields for each of 546 records. */
+#define F24_CHANGED_MOST 4368
 
 /* Judges a flow. Where it is accepted:
  *   answer[0]           number of deleghe
@@ -109,6 +113,27 @@ uint64_t f24_find(const uint8_t *flow, size_t flow_len, uint64_t delega, uint64_
  */
 uint64_t f24_correct(uint8_t *flow, size_t flow_len, uint64_t delega, uint64_t subtype, uint64_t place, uint64_t debit,
                      uint64_t credit, uint64_t *answer, size_t answer_len);
+
+/* Rebalances a flow: the totals, sign and balance of every section, every final balance, and the two counts and the
+ * sum of EF are written anew from the lines, and each of these fields whose bytes are others then is listed. Where that
+ * is done:
+ *   answer[0]           the number of fields listed, n
+ *   changed[2 * i]      for each i below n: the record of a field
+ *   changed[2 * i + 1]  and the position at which it starts
+ * answer[1] is then left as it was, and so is every number of changed from changed[2 * n] on. The fields stand in the
+ * order of the flow's bytes; a sign is a field of its own. No other byte of the flow has changed, and the flow is
+ * accepted. One that was accepted before comes back as it was, with n = 0.
+ *
+ * changed has room for changed_len / 2 fields, and changed_len may be 0. F24_CHANGED_MOST numbers are enough for every
+ * flow.
+ *
+ * It tries the refusals of the judgement, but not 10 to 13, 15 and 18 to 20, nor 7 in a field that is written anew; 3
+ * stops it there too. The name in EF is not written anew: 16 stays. Then it tries 23 (a total, balance or sum would
+ * need more than fifteen digits) and 27 (more fields would be listed than changed has room for). A refusal leaves every
+ * byte of the flow and every number of changed as it was.
+ */
+uint64_t f24_rebalance(uint8_t *flow, size_t flow_len, uint64_t *changed, size_t changed_len, uint64_t *answer,
+                       size_t answer_len);
 
 /* Writes the flow of a working sheet into a room. docs/SHEETS.md says what a sheet is. Where that is done:
  *   answer[0]           the length of the flow in bytes, 120 for each of its records

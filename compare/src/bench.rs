@@ -20,7 +20,7 @@ mod rng;
 mod sound;
 mod taxcodes;
 
-use calls::{Call, MOST_NUMBERS};
+use calls::{Call, CHANGED_MOST, MOST_NUMBERS, REBALANCE_ROOM};
 use columns::RECORD;
 use flows::{Spot, CASES};
 use std::io::Write;
@@ -31,7 +31,9 @@ const USAGE: &str = "usage:
   bench cases                     names the cases: name, records, answer, record and position of a refusal
   bench flow CASE                 writes the flow of a case to standard output
   bench count WHO CASE TIMES      judges; WHO is library, reference, fast, characters or sum
-  bench call WHO CALL TIMES       on the flow of 546 records; WHO is library or reference, CALL delega, find or correct
+  bench call WHO CALL TIMES       on the flow of 546 records; WHO is library or reference, CALL delega, find, correct,
+                                  rebalance, or blanked for a rebalancing with every stored field blanked before it;
+                                  WHO may be nobody with blanked, which then blanks alone
   bench clock ROUNDS              times them all, in turns: nanoseconds per flow, the median of the rounds
   bench memory                    bytes of stack and of heap that one call takes on each case";
 
@@ -145,6 +147,11 @@ fn cases() -> Option<()> {
 /// Makes a call so many times on the flow of 546 records. A correction goes to
 /// other amounts and back, in turns.
 fn calls(who: &str, call: &str, times: u64) -> Option<()> {
+    match call {
+        "rebalance" => return rebalance(who, &flows::middle().0, false, times),
+        "blanked" => return rebalance(who, &flows::blanked(), true, times),
+        _ => (),
+    }
     let (mut flow, spot) = flows::middle();
     let Spot { delega, subtype, place, amounts: (debit, credit) } = spot;
     let correct = |debit| Call::Correct { delega, subtype, place, debit, credit };
@@ -163,6 +170,30 @@ fn calls(who: &str, call: &str, times: u64) -> Option<()> {
     for turn in 0..times {
         let code = opaque(side)(&opaque(turns[turn as usize % 2]), &mut flow, &mut room);
         assert!(code == 0, "{call} by the {who} is refused {code}");
+    }
+    Some(())
+}
+
+/// Rebalances a flow so many times with a list that is long enough. One that is
+/// changed by it is copied anew each time; nobody copies it and does no more.
+fn rebalance(who: &str, flow: &[u8], anew: bool, times: u64) -> Option<()> {
+    let side: fn(&mut [u8], &mut [u64], &mut [u64]) -> u64 = match who {
+        "library" => ffi::rebalance,
+        "reference" => rival::rebalance,
+        "nobody" if anew => |_, _, answer| {
+            answer[0] = 1;
+            0
+        },
+        _ => return None,
+    };
+    let mut lent = flow.to_vec();
+    let (mut list, mut answer) = ([0; CHANGED_MOST], [0; REBALANCE_ROOM]);
+    for _ in 0..times {
+        if anew {
+            lent.copy_from_slice(flow);
+        }
+        let code = opaque(side)(&mut lent, &mut list, &mut answer);
+        assert!(code == 0 && (answer[0] > 0) == anew, "a rebalancing by the {who} is answered {code} {answer:?}");
     }
     Some(())
 }

@@ -22,6 +22,11 @@ pub const FOREIGN: u64 = 102;
 pub const STATE_ROOM: usize = 53;
 pub const PORTION_ROOM: usize = 15;
 
+/// How many numbers the answer of a rebalancing needs room for, and how many its
+/// list may need at most.
+pub const REBALANCE_ROOM: usize = 2;
+pub const CHANGED_MOST: usize = 4368;
+
 /// Whether an answer is one to the records: lengths, room and bytes that are no
 /// sheet come before them.
 pub fn is_of_records(code: u64) -> bool {

@@ -163,6 +163,21 @@ impl Kind {
         }
     }
 
+    /// The fields that are worked out from the lines, start and width, in the order
+    /// of their positions.
+    #[rustfmt::skip]
+    pub fn stored(self) -> &'static [(usize, usize)] {
+        match self {
+            Balance(0) | Balance(1) => &[(13, 15), (28, 15), (43, 1), (44, 15)],
+            Balance(2) => &[(15, 15), (30, 15), (45, 1), (46, 15)],
+            Balance(3) => &[(17, 15), (32, 15), (47, 1), (48, 15)],
+            Balance(_) => &[(43, 1), (44, 15)],
+            Payment => &[(36, 15)],
+            Tail => &[(46, 7), (53, 15), (83, 7)],
+            Head | Payer | Domicile | Line(_) | Receipt | Addressee => &[],
+        }
+    }
+
     /// What the numeric field that starts here holds.
     pub fn holds(self, start: usize) -> Holds {
         match self {

@@ -98,7 +98,7 @@ fn behind_payer(rng: &mut Rng, flow: &mut Flow) {
 }
 
 /// Damages that leave all other numbers right. Tells whether it did one.
-fn in_plan(rng: &mut Rng, plan: &mut Plan, aim: u64) -> bool {
+pub fn in_plan(rng: &mut Rng, plan: &mut Plan, aim: u64) -> bool {
     if plan.deleghe.is_empty() {
         return false;
     }
@@ -176,7 +176,7 @@ pub fn line_rule(rng: &mut Rng, delega: &mut DelegaPlan) {
 
 /// A total, balance, final balance or sum that needs more than fifteen digits;
 /// the field holds its last fifteen.
-fn too_large(rng: &mut Rng, plan: &mut Plan, at: usize, aim: u64) -> bool {
+pub fn too_large(rng: &mut Rng, plan: &mut Plan, at: usize, aim: u64) -> bool {
     let over = if rng.one_in(2) { 0 } else { rng.wide(MOST_AMOUNT - 1) };
     if aim == 20 {
         // Each final balance fits, their sum does not.
@@ -260,7 +260,7 @@ pub fn negative(rng: &mut Rng, plan: &mut Plan) -> bool {
     true
 }
 
-fn in_length(rng: &mut Rng, pool: &Pool, bytes: &mut Vec<u8>, aim: u64) {
+pub fn in_length(rng: &mut Rng, pool: &Pool, bytes: &mut Vec<u8>, aim: u64) {
     if aim == 1 {
         let length = match rng.below(4) {
             0 => MOST_BYTES + 1,
@@ -316,7 +316,7 @@ fn is_line(kind: Kind) -> bool {
     matches!(kind, Line(_))
 }
 
-fn in_records(rng: &mut Rng, flow: &mut Flow, aim: u64) {
+pub fn in_records(rng: &mut Rng, flow: &mut Flow, aim: u64) {
     let records = flow.kinds.len();
     if records == 0 {
         return;
@@ -593,7 +593,7 @@ fn section_field(rng: &mut Rng, flow: &mut Flow, aim: u64) {
 }
 
 /// Gives a field another value and answers by how much it grew.
-fn bend(rng: &mut Rng, record: &mut [u8], start: usize, width: usize) -> u64 {
+pub fn bend(rng: &mut Rng, record: &mut [u8], start: usize, width: usize) -> u64 {
     let old = get(record, start, width);
     let modulus = 10_u64.pow(width as u32);
     let new = match rng.below(8) {

@@ -50,6 +50,14 @@ extern "C" {
         answer: *mut u64,
         answer_len: usize,
     ) -> u64;
+    fn f24_rebalance(
+        flow: *mut u8,
+        flow_len: usize,
+        changed: *mut u64,
+        changed_len: usize,
+        answer: *mut u64,
+        answer_len: usize,
+    ) -> u64;
 }
 
 /// Makes a call on a flow and lets the library write its answer into the room.
@@ -95,6 +103,16 @@ pub fn judge_portion(flow: &[u8], portion: u64, state: &mut [u64], answer: &mut 
     unsafe { f24_judge_portion(flow.as_ptr(), flow.len(), portion, numbers, length, answer.as_mut_ptr(), answer.len()) }
 }
 
+/// Lets the library rebalance a flow and write the list of what changed and its
+/// answer.
+#[cfg(not(stand_in))]
+pub fn rebalance(flow: &mut [u8], changed: &mut [u64], answer: &mut [u64]) -> u64 {
+    let (list, numbers) = (changed.as_mut_ptr(), changed.len());
+    // SAFETY: the three pointers are to slices of these lengths, lent for the
+    // call alone and apart from one another; the library asks nothing else.
+    unsafe { f24_rebalance(flow.as_mut_ptr(), flow.len(), list, numbers, answer.as_mut_ptr(), answer.len()) }
+}
+
 /// A build with `--cfg stand_in` links no library: the reference takes its
 /// place, and nothing is compared but the reference with itself.
 #[cfg(stand_in)]
@@ -118,4 +136,9 @@ pub fn start(state: &mut [u64]) -> u64 {
 #[cfg(stand_in)]
 pub fn judge_portion(flow: &[u8], portion: u64, state: &mut [u64], answer: &mut [u64]) -> u64 {
     crate::rival::judge_portion(flow, portion, state, answer)
+}
+
+#[cfg(stand_in)]
+pub fn rebalance(flow: &mut [u8], changed: &mut [u64], answer: &mut [u64]) -> u64 {
+    crate::rival::rebalance(flow, changed, answer)
 }

@@ -93,3 +93,13 @@ pub fn middle() -> (Vec<u8>, Spot) {
     };
     (flow.bytes, spot)
 }
+
+/// The same flow with blanks in every stored field.
+pub fn blanked() -> Vec<u8> {
+    let mut flow = middle().0;
+    for record in flow.chunks_exact_mut(RECORD) {
+        let fields = Kind::of(record).map_or(&[][..], Kind::stored);
+        fields.iter().for_each(|&(start, width)| record[start - 1..start - 1 + width].fill(b' '));
+    }
+    flow
+}

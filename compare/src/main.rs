@@ -20,12 +20,17 @@ mod frames;
 mod heads;
 mod lent;
 mod lines;
+mod mended;
 mod passed;
 mod payers;
 mod portion;
 mod portion_vectors;
 mod probe;
 mod quick;
+mod rebalance_damage;
+mod rebalance_vectors;
+mod rebalances;
+mod rebalancing;
 mod report;
 mod rival;
 mod rng;
@@ -58,15 +63,18 @@ use std::process::ExitCode;
 use writing::Writings;
 
 const USAGE: &str = "usage:
-  compare SEED FLOWS CORRECTIONS [SHEETS [SERIES]]
-                                             compares so many random cases; SERIES is 200000 where it is not given
-  compare again SEED KIND INDEX              compares one of these once more; KIND is flow, correction, sheet or series
+  compare SEED FLOWS CORRECTIONS [SHEETS [SERIES [REBALANCINGS]]]
+                                             compares so many random cases; SERIES and REBALANCINGS are 200000 where
+                                             they are not given
+  compare again SEED KIND INDEX              compares one of these once more; KIND is flow, correction, sheet, series
+                                             or rebalancing
   compare dates                              compares every six digits as the date of a flow and of a sheet
   compare codes FILE                         compares every last character behind the tax codes' beginnings of a file
   compare frames FILE..                      compares the flows of framed files
   compare files FILE..                       compares files, a flow each
   compare sheets FILE..                      compares files, a sheet each
   compare portions FILE..                    compares files, a flow each, judged by portions
+  compare rebalances FILE..                  compares files, a flow each, rebalanced
   compare seeds SEED COUNT FOLDER            writes small random flows, a file each, for a fuzzer to start from
   compare vectors SEED COUNT FLOWS STDOUT    writes random flows with the reference's answers
   compare vectors sheets SEED COUNT DATA STDOUT
@@ -75,6 +83,8 @@ const USAGE: &str = "usage:
                                              writes random calls for one delega with the reference's answers
   compare vectors portions SEED COUNT DATA STDOUT
                                              writes random judgements by portions with the reference's answers
+  compare vectors rebalances SEED COUNT DATA STDOUT
+                                             writes random rebalancings with the reference's answers
 The first difference goes to the folder that COMPARE_FOLDER names, or to 'difference'.";
 
 /// Fewest times that each answer must come up in a full run.
@@ -89,6 +99,7 @@ pub enum Failure {
     Differs(String, Box<Difference>),
     SheetDiffers(String, Box<writing::Difference>),
     SeriesDiffers(String, Box<portion::Difference>),
+    RebalancingDiffers(String, Box<rebalancing::Difference>),
     /// An answer that came up too seldom for the run to say much.
     Seldom,
 }
@@ -120,6 +131,10 @@ fn main() -> ExitCode {
             eprintln!("\nDIFFERENCE in a judgement by portions");
             shown(&case, difference.write(&folder(), &case))
         }
+        Err(Failure::RebalancingDiffers(case, difference)) => {
+            eprintln!("\nDIFFERENCE in a rebalancing");
+            shown(&case, difference.write(&folder(), &case))
+        }
     }
 }
 
@@ -140,6 +155,7 @@ fn run(words: &[&str]) -> Result<(), Failure> {
         ["files", ref files @ ..] if !files.is_empty() => compare_files(files),
         ["sheets", ref files @ ..] if !files.is_empty() => sheets::compare_files(files),
         ["portions", ref files @ ..] if !files.is_empty() => series::compare_files(files),
+        ["rebalances", ref files @ ..] if !files.is_empty() => rebalances::compare_files(files),
         ["seeds", seed, count, folder] => seeds(number(seed)?, number(count)?, Path::new(folder)),
         ["vectors", "sheets", seed, count, data, stdout] => {
             sheet_vectors::write(number(seed)?, number(count)?, data, stdout)
@@ -153,17 +169,19 @@ fn run(words: &[&str]) -> Result<(), Failure> {
             portion_vectors::write(number(seed)?, number(count)?, data, stdout)
                 .map_err(|error| Failure::Io(error.to_string()))
         }
+        ["vectors", "rebalances", seed, count, data, stdout] => {
+            rebalance_vectors::write(number(seed)?, number(count)?, data, stdout)
+                .map_err(|error| Failure::Io(error.to_string()))
+        }
         ["vectors", seed, count, flows, stdout] => {
             vectors::write(number(seed)?, number(count)?, flows, stdout).map_err(|error| Failure::Io(error.to_string()))
         }
-        [seed, flows, corrections] => {
-            compare(number(seed)?, [number(flows)?, number(corrections)?, 0, series::FULL])
-        }
-        [seed, flows, corrections, sheets] => {
-            compare(number(seed)?, [number(flows)?, number(corrections)?, number(sheets)?, series::FULL])
-        }
-        [seed, flows, corrections, sheets, series] => {
-            compare(number(seed)?, [number(flows)?, number(corrections)?, number(sheets)?, number(series)?])
+        [seed, ref counts @ ..] if (2..=5).contains(&counts.len()) => {
+            let mut all = [0, 0, 0, series::FULL, rebalances::FULL];
+            for (count, word) in all.iter_mut().zip(counts) {
+                *count = number(word)?;
+            }
+            compare(number(seed)?, all)
         }
         _ => Err(Failure::Usage),
     }
@@ -177,9 +195,9 @@ fn folder() -> PathBuf {
     PathBuf::from(std::env::var_os("COMPARE_FOLDER").unwrap_or_else(|| "difference".into()))
 }
 
-fn compare(seed: u64, [flows, corrections, sheets, many]: [u64; 4]) -> Result<(), Failure> {
+fn compare(seed: u64, [flows, corrections, sheets, many, mended]: [u64; 5]) -> Result<(), Failure> {
     let mut what = format!("{flows} flows, {corrections} corrections");
-    for (count, name) in [(sheets, "sheets"), (many, "series")] {
+    for (count, name) in [(sheets, "sheets"), (many, "series"), (mended, "rebalancings")] {
         if count > 0 {
             what += &format!(", {count} {name}");
         }
@@ -213,6 +231,7 @@ fn compare(seed: u64, [flows, corrections, sheets, many]: [u64; 4]) -> Result<()
         progress(index, sheets, "sheets");
     }
     let series = series::compare(&pool, seed, many)?;
+    let rebalancings = rebalances::compare(&pool, seed, mended)?;
 
     comparer.tally.print();
     shapes.print();
@@ -220,6 +239,9 @@ fn compare(seed: u64, [flows, corrections, sheets, many]: [u64; 4]) -> Result<()
         writings.tally.print();
     }
     series.print(many);
+    if mended > 0 {
+        rebalancings.tally.print();
+    }
     let judged = (0..=20).chain([26]).map(|way| (comparer.tally.of(0, way), format!("judge {way}"))).min();
     let corrected =
         [0, 9, 14, 21, 22, 23].iter().map(|&way| (comparer.tally.of(3, way), format!("correct {way}"))).min();
@@ -250,7 +272,8 @@ fn compare(seed: u64, [flows, corrections, sheets, many]: [u64; 4]) -> Result<()
     if seldom {
         eprintln!("compare: an answer came up fewer than {FEWEST} times");
     }
-    if series.is_seldom(many) || seldom {
+    seldom |= series.is_seldom(many);
+    if rebalances::is_seldom(&rebalancings, mended) || seldom {
         return Err(Failure::Seldom);
     }
     println!("no difference");
@@ -555,6 +578,7 @@ fn again(seed: u64, kind: &str, index: u64) -> Result<(), Failure> {
         }
         "sheet" => return sheets::again(&pool, seed, index),
         "series" => return series::again(&pool, seed, index),
+        "rebalancing" => return rebalances::again(&pool, seed, index),
         _ => return Err(Failure::Usage),
     };
     compared.map_err(|difference| differs(seed, kind, index, difference))?;

@@ -1,6 +1,6 @@
 //! The reference, answering as include/f24.h says that the library does.
 
-use crate::calls::{Call, FOREIGN, NOT_ENDED, NO_ROOM, PORTION_ROOM, STATE_ROOM, SUMS};
+use crate::calls::{Call, FOREIGN, NOT_ENDED, NO_ROOM, PORTION_ROOM, REBALANCE_ROOM, STATE_ROOM, SUMS};
 use reference::{Answer, Refusal, State, Summary};
 
 /// Makes a call on a flow and writes its answer into the room.
@@ -99,6 +99,24 @@ pub fn judge_portion(flow: &[u8], portion: u64, state: &mut [u64], answer: &mut 
         Answer::Ended(Err(Refusal { number, record, position })) => {
             answer[1] = record as u64;
             answer[2] = position as u64;
+            u64::from(number)
+        }
+    }
+}
+
+/// Rebalances a flow and writes the list of what changed and the answer.
+pub fn rebalance(flow: &mut [u8], changed: &mut [u64], answer: &mut [u64]) -> u64 {
+    if answer.len() < REBALANCE_ROOM {
+        return NO_ROOM;
+    }
+    match reference::rebalance(flow, changed) {
+        Ok(listed) => {
+            answer[0] = listed as u64;
+            0
+        }
+        Err(Refusal { number, record, position }) => {
+            answer[0] = record as u64;
+            answer[1] = position as u64;
             u64::from(number)
         }
     }

@@ -10,6 +10,7 @@ pub const DATE: u64 = 4;
 pub const LINE: u64 = 5;
 pub const ROOM: u64 = 6;
 pub const SERIES: u64 = 7;
+pub const REBALANCING: u64 = 8;
 
 static KIND: AtomicU64 = AtomicU64::new(0);
 static SEED: AtomicU64 = AtomicU64::new(0);
@@ -45,6 +46,7 @@ extern "C" fn trapped(number: i32) {
         FLOW => b": flow ",
         SHEET => b": sheet ",
         SERIES => b": series ",
+        REBALANCING => b": rebalancing ",
         DATE => b": date ",
         LINE => b": line ",
         ROOM => b": rooms of every length, call ",
@@ -54,7 +56,7 @@ extern "C" fn trapped(number: i32) {
     if !matches!(KIND.load(Relaxed), DATE | LINE | ROOM) {
         say(b" of seed ");
         say_number(SEED.load(Relaxed));
-        say(b" (once more: again SEED flow|correction|sheet|series INDEX)");
+        say(b" (once more: again SEED flow|correction|sheet|series|rebalancing INDEX)");
     }
     say(b"\n");
     // SAFETY: ends the program.

@@ -264,7 +264,7 @@ impl Judgement {
     }
 
     /// "all records of a delega carry its number"
-    fn open_delega(&self, number: u64) -> Result<(), Fault> {
+    pub fn open_delega(&self, number: u64) -> Result<(), Fault> {
         ensure(number == self.deleghe, 8, DELEGA)
     }
 }
@@ -337,7 +337,7 @@ fn line_among(mut sections: Range<usize>, subtype: [u8; 2]) -> Option<Step> {
         .map(Step::Line)
 }
 
-fn name(record: &Record) -> Name {
+pub fn name(record: &Record) -> Name {
     let mut name = [0; NAME_WIDTH];
     name.copy_from_slice(&record[NAME - 1..NAME - 1 + NAME_WIDTH]);
     name
@@ -350,7 +350,7 @@ fn code(record: &Record) -> Code {
 }
 
 /// A seven-digit count or number, or fault 7 at its start.
-fn count(record: &Record, position: usize) -> Result<u64, Fault> {
+pub fn count(record: &Record, position: usize) -> Result<u64, Fault> {
     seven(record, position).ok_or(fault(7, position))
 }
 

@@ -2,7 +2,7 @@
 //! the columns of CBI-F24-001. Words in quotation marks are those rules'. The
 //! writer of flows from working sheets is after document 02, and so are the
 //! position of refusal 7 and the date rule, which 02 amends, refusal 26, the
-//! lines and sections of a summary, and the judge by portions.
+//! lines and sections of a summary, the judge by portions and the rebalancing.
 //!
 //! Every input is taken, of every length and value. Sums can't overflow: a
 //! flow has at most 546 records with amounts below 10^15.
@@ -17,6 +17,9 @@ mod layout;
 #[cfg(test)]
 mod portion_tests;
 mod portions;
+mod rebalancing;
+#[cfg(test)]
+mod rebalancing_tests;
 #[cfg(test)]
 mod sheet_tests;
 mod sheets;
@@ -27,6 +30,7 @@ use digits::{non_digit, write_fifteen};
 use judgement::{Fault, Judgement, Step, Usage};
 use layout::*;
 pub use portions::{judge_portion, Answer, Answered, State, STATE_NUMBERS};
+pub use rebalancing::rebalance;
 pub use sheets::write;
 // The comparison asks for more of a refusal than the command line.
 #[allow(unused_imports)]

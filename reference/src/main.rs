@@ -3,6 +3,7 @@
 #[path = "lib.rs"]
 mod f24;
 mod portion_cases;
+mod rebalance_cases;
 
 use f24::{DelegaSummary, Refusal, Summary};
 use std::ffi::OsString;
@@ -17,9 +18,11 @@ const USAGE: &str = "usage:
   reference find FILE DELEGA SUBTYPE PLACE
   reference correct FILE DELEGA SUBTYPE PLACE DEBIT CREDIT [OUT]
   reference write SHEET [OUT]
+  reference rebalance FILE [OUT]
   reference batch FILE
   reference sheets FILE
-  reference portions FILE";
+  reference portions FILE
+  reference rebalances FILE";
 
 /// "reads standard input, up to 65,521 bytes": one more than a flow may have.
 const MOST_READ: u64 = 65_521;
@@ -74,9 +77,18 @@ fn run(words: &[&str], out: &mut impl Write) -> io::Result<()> {
         }
         ["write", sheet] => write(out, sheet, "-"),
         ["write", sheet, to] => write(out, sheet, to),
+        ["rebalance", file] => rebalance_cases::one(out, &mut read_flow(file)?).map(drop),
+        ["rebalance", file, to] => {
+            let mut flow = read_flow(file)?;
+            match rebalance_cases::one(out, &mut flow)? {
+                true => fs::write(to, &flow),
+                false => Ok(()),
+            }
+        }
         ["batch", file] => batch(out, &read(file, u64::MAX)?),
         ["sheets", file] => sheets(out, &read(file, u64::MAX)?),
         ["portions", file] => portion_cases::answer(out, &read(file, u64::MAX)?),
+        ["rebalances", file] => rebalance_cases::answer(out, &read(file, u64::MAX)?),
         _ => Err(io::Error::new(io::ErrorKind::InvalidInput, USAGE)),
     }
 }
@@ -167,7 +179,11 @@ fn split_frame(frames: &[u8]) -> Option<(&[u8], &[u8], &[u8])> {
     let (header, rest) = (&frames[..end], &frames[end + 1..]);
     let space = header.iter().position(|&byte| byte == b' ')?;
     let (name, length) = (&header[..space], &header[space + 1..]);
-    let length = std::str::from_utf8(length).ok()?.trim_start().parse().ok()?;
+    let length = std::str::from_utf8(length)
+        .ok()?
+        .trim_start()
+        .parse()
+        .ok()?;
     let flow = rest.get(..length)?;
     let rest = rest[length..].strip_prefix(b"\n")?;
     Some((name, flow, rest))

@@ -126,7 +126,7 @@ fn section(delega: u64, (subtype, lines): Built) -> Vec<Record> {
 }
 
 /// A delega's records and its final balance; a negative one is stored as zero.
-fn delega_records(delega: u64, sections: &[Built]) -> (Vec<Record>, u64) {
+pub fn delega_records(delega: u64, sections: &[Built]) -> (Vec<Record>, u64) {
     let mut records = vec![taxpayer(delega), numbered("20", delega, "")];
     let (mut debits, mut credits) = (0, 0);
     for &built in sections {
@@ -190,7 +190,7 @@ fn assert_refused(flow: &[u8], number: u8, record: usize, position: usize) {
 }
 
 /// Records: 1 F4, 2 10, 3 20, 4 and 5 40-05, 6 40-06, 7 50-01, 8 EF.
-fn example() -> Vec<u8> {
+pub fn example() -> Vec<u8> {
     one(5, &[(10000, 0), (0, 2500)])
 }
 
@@ -611,7 +611,7 @@ fn all_fields_are_tested_before_any_is_compared() {
 
 /// Records: 1 F4; 2-14 delega 1 with the four sections, one line each, and its
 /// receipts; 15-19 delega 2 with 40-17; 20 EF.
-fn every_kind() -> Vec<u8> {
+pub fn every_kind() -> Vec<u8> {
     const LINES: &[(u64, u64)] = &[(9, 0)];
     let (first, _) = delega_records(1, &[(1, LINES), (3, LINES), (5, LINES), (7, LINES)]);
     let receipts = ["02", "03"].map(|subtype| numbered("50", 1, subtype));
@@ -622,7 +622,7 @@ fn every_kind() -> Vec<u8> {
 }
 
 /// Its numeric fields, record by record: start and width of each.
-const FIELDS: [(usize, &[(usize, usize)]); 20] = [
+pub const FIELDS: [(usize, &[(usize, usize)]); 20] = [
     (1, &[(14, 6)]),
     (2, &[(4, 7)]),
     (3, &[(4, 7)]),
@@ -1389,13 +1389,13 @@ fn the_sign_turns_and_is_positive_at_zero() {
 // ---------------------------------------------------- corrections at random
 
 /// A delega whose lines can be changed: subtypes with their lines.
-type Drawn = Vec<(u64, Vec<(u64, u64)>)>;
+pub type Drawn = Vec<(u64, Vec<(u64, u64)>)>;
 
 /// A small generator of numbers that only look random.
-struct Dice(u64);
+pub struct Dice(pub u64);
 
 impl Dice {
-    fn below(&mut self, limit: u64) -> u64 {
+    pub fn below(&mut self, limit: u64) -> u64 {
         self.0 = self
             .0
             .wrapping_mul(6_364_136_223_846_793_005)
@@ -1419,7 +1419,7 @@ impl Dice {
         }
     }
 
-    fn delega(&mut self) -> Drawn {
+    pub fn delega(&mut self) -> Drawn {
         let mut subtypes: Vec<u64> = [1, 3, 5, 7]
             .into_iter()
             .filter(|_| self.below(2) == 0)
@@ -1439,7 +1439,7 @@ impl Dice {
     }
 }
 
-fn rebuilt(deleghe: &[Drawn]) -> Vec<u8> {
+pub fn rebuilt(deleghe: &[Drawn]) -> Vec<u8> {
     let deleghe: Vec<Vec<Built>> = deleghe
         .iter()
         .map(|sections| {

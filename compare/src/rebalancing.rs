@@ -1,0 +1,427 @@
+//! Lets the library and the reference rebalance the same flow with lists of the
+//! same numbers, and compares everything that either leaves behind. What both
+//! leave is held to what the generator says of the flow.
+
+use crate::calls::{Call, CHANGED_MOST, MOST_NUMBERS, NO_ROOM, REBALANCE_ROOM};
+use crate::columns::{Kind, MOST_AMOUNT, RECORD};
+use crate::ffi;
+use crate::heads;
+use crate::lent::{Lent, Place};
+use crate::mended::Account;
+use crate::payers;
+use crate::quick;
+use crate::rebalance_damage::{Case, Known, SORTS};
+use crate::rival;
+use crate::rng::Rng;
+use crate::sorts;
+use std::fs;
+use std::io;
+use std::path::Path;
+
+/// The longest flow that is tried.
+const MOST_FLOW: usize = 160_000;
+/// More numbers than a list and an answer need.
+const MOST_LIST: usize = 5000;
+const MOST_ANSWER: usize = REBALANCE_ROOM + 5;
+
+/// What a call answered and what it left.
+#[derive(Clone, PartialEq)]
+pub struct Left {
+    pub code: u64,
+    pub flow: Vec<u8>,
+    pub list: Vec<u64>,
+    pub answer: Vec<u64>,
+}
+
+/// A flow on which the sides are not the same, or not as they must be.
+pub struct Difference {
+    why: String,
+    before: Left,
+    reference: Left,
+    library: Left,
+}
+
+pub type Compared<T> = Result<T, Box<Difference>>;
+
+pub struct Rebalancings {
+    flow: Lent,
+    list: Lent,
+    answer: Lent,
+    pub tally: Tally,
+}
+
+impl Rebalancings {
+    pub fn new() -> Self {
+        Rebalancings {
+            flow: Lent::new(MOST_FLOW),
+            list: Lent::new(8 * MOST_LIST),
+            answer: Lent::new(8 * MOST_ANSWER),
+            tally: Tally::default(),
+        }
+    }
+
+    /// Compares a case, now and then with too little room for the answer first.
+    /// What is rebalanced is accepted, and rebalanced once more.
+    pub fn compare(&mut self, rng: &mut Rng, case: &Case) -> Compared<u64> {
+        let Case { made, list, account, sort } = case;
+        if rng.one_in(16) {
+            let numbers = rng.place(REBALANCE_ROOM);
+            let left = self.compare_with(rng, &made.flow, *list, numbers, account)?;
+            self.tally.answer(left.code);
+        }
+        let numbers = REBALANCE_ROOM + if rng.one_in(2) { 0 } else { rng.place(5) };
+        let left = self.compare_with(rng, &made.flow, *list, numbers, account)?;
+        if let Some(why) = made.known.as_ref().and_then(|known| unlike(known, account)) {
+            return Err(Difference::of(why, &made.flow, &left));
+        }
+        self.tally.count(case, &left);
+        sort.iter().for_each(|&sort| self.tally.sorts[sort] += 1);
+        if left.code == 0 {
+            if let Some(why) = refused(&left.flow) {
+                return Err(Difference::of(why, &made.flow, &left));
+            }
+            self.compare_with(rng, &left.flow, 0, REBALANCE_ROOM, &Account::settled(&left.flow))?;
+            self.tally.seconds += 1;
+        }
+        Ok(left.code)
+    }
+
+    /// Compares a call with a list of so many numbers and an answer of so many,
+    /// and what both sides leave with the account. No tally counts these.
+    pub fn compare_with(
+        &mut self,
+        rng: &mut Rng,
+        flow: &[u8],
+        list: usize,
+        numbers: usize,
+        account: &Account,
+    ) -> Compared<Left> {
+        assert!(flow.len() <= MOST_FLOW && list <= MOST_LIST && numbers <= MOST_ANSWER);
+        let before = Left { code: 0, flow: flow.to_vec(), list: canary(rng, list), answer: canary(rng, numbers) };
+        let mut reference = before.clone();
+        reference.code = rival::rebalance(&mut reference.flow, &mut reference.list, &mut reference.answer);
+        let (library, beside) = self.ask_library(rng, &before);
+
+        let why = if library != reference {
+            format!("{} by the {}", what_differs(&library, &reference), ffi::NAME)
+        } else if beside {
+            "bytes beside the lent memory were written".to_string()
+        } else {
+            let says = says(account, &before);
+            let other = Some(&says).filter(|says| **says != reference).map(|says| {
+                let told = &says.answer[..says.answer.len().min(REBALANCE_ROOM)];
+                format!("{}: the generator says {} {told:?}", what_differs(&reference, says), says.code)
+            });
+            let other = other
+                .or_else(|| heads::unlike(flow, reference.code, &reference.answer))
+                .or_else(|| payers::unlike(|| payers::in_flow(flow), reference.code, &reference.answer));
+            match other {
+                None => return Ok(reference),
+                Some(why) => why,
+            }
+        };
+        Err(Box::new(Difference { why, before, reference, library }))
+    }
+
+    /// What the library left, and whether it wrote to anything beside it.
+    fn ask_library(&mut self, rng: &mut Rng, before: &Left) -> (Left, bool) {
+        let place = match rng.below(4) {
+            0 => Place::Start,
+            1 => Place::Within(1 + rng.place(63)),
+            _ => Place::End,
+        };
+        let mut any_end = || if rng.one_in(2) { Place::End } else { Place::Start };
+        let flow_part = self.flow.part(before.flow.len(), place);
+        let list_part = self.list.part(8 * before.list.len(), any_end());
+        let answer_part = self.answer.part(8 * before.answer.len(), any_end());
+        let flow = self.flow.bytes(&flow_part);
+        flow.copy_from_slice(&before.flow);
+        let list = self.list.numbers(&list_part);
+        list.copy_from_slice(&before.list);
+        let answer = self.answer.numbers(&answer_part);
+        answer.copy_from_slice(&before.answer);
+        let code = ffi::rebalance(flow, list, answer);
+        let left = Left { code, flow: flow.to_vec(), list: list.to_vec(), answer: answer.to_vec() };
+        let kept = self.flow.kept(&flow_part) && self.list.kept(&list_part) && self.answer.kept(&answer_part);
+        (left, !kept)
+    }
+}
+
+/// Numbers that are seen to stay, or not.
+fn canary(rng: &mut Rng, room: usize) -> Vec<u64> {
+    let (first, step) = (rng.next(), rng.next() | 1);
+    (0..room as u64).map(|at| first.wrapping_add(at.wrapping_mul(step))).collect()
+}
+
+fn what_differs(one: &Left, other: &Left) -> &'static str {
+    if one.code != other.code {
+        "what is answered"
+    } else if one.answer != other.answer {
+        "the answer's numbers"
+    } else if one.list != other.list {
+        "the list"
+    } else {
+        "the flow"
+    }
+}
+
+/// What a call leaves, by the account.
+fn says(account: &Account, before: &Left) -> Left {
+    let mut left = before.clone();
+    let listed = account.changed.len();
+    let told = match account.says {
+        _ if before.answer.len() < REBALANCE_ROOM => {
+            left.code = NO_ROOM;
+            return left;
+        }
+        [0, ..] if listed > before.list.len() / 2 => [27, 0, 0],
+        told => told,
+    };
+    left.code = told[0];
+    if left.code == 0 {
+        left.answer[0] = listed as u64;
+        left.list[..2 * listed].copy_from_slice(&account.changed.concat());
+        left.flow.copy_from_slice(&account.after);
+    } else {
+        left.answer[..2].copy_from_slice(&told[1..]);
+    }
+    left
+}
+
+/// In what the account is not as the plan has it.
+fn unlike(known: &Known, account: &Account) -> Option<String> {
+    match known {
+        Known::Refused(told) => Some(format!("by the plan it is {told:?}")).filter(|_| account.says != *told),
+        Known::Flow(_) if account.says[0] != 0 => Some("by the plan it is rebalanced".to_string()),
+        Known::Flow(flow) => Some("not the flow of the plan".to_string()).filter(|_| *flow != account.after),
+    }
+}
+
+/// Why a flow that was rebalanced is not accepted by all.
+fn refused(flow: &[u8]) -> Option<String> {
+    let mut room = [0; MOST_NUMBERS];
+    let judged = [
+        (ffi::NAME, ffi::call(&Call::Judge, &mut flow.to_vec(), &mut room)),
+        ("reference", rival::call(&Call::Judge, &mut flow.to_vec(), &mut room)),
+        (quick::NAME, quick::judge(flow, &mut room)),
+    ];
+    judged.iter().find(|(_, code)| *code != 0).map(|(name, code)| format!("afterwards the {name} refuses it {code}"))
+}
+
+/// The answers in the order of the tally.
+#[rustfmt::skip]
+pub const ANSWERS: [(u64, &str); 17] = [
+    (0, "0 rebalanced"), (1, "1"), (2, "2"), (3, "3"), (4, "4"), (5, "5"), (6, "6"), (7, "7"), (8, "8"), (9, "9"),
+    (14, "14"), (16, "16"), (17, "17"), (23, "23"), (26, "26"), (27, "27"), (NO_ROOM, "100 room"),
+];
+
+/// Lists by their length, where the flow is rebalanced or the list too short.
+#[rustfmt::skip]
+const LISTS: [(usize, &str); 10] = [
+    (0, "none, nothing changes"), (1, "none, something changes"), (2, "shorter"), (3, "a pair too short"),
+    (4, "a number too short"), (5, "as long as needed"), (6, "a number more"), (7, "a pair more"), (8, "longer"),
+    (9, "4,368 numbers"),
+];
+
+/// What a listed field holds.
+#[rustfmt::skip]
+const FIELDS: [(usize, &str); 8] = [
+    (0, "total debit"), (1, "total credit"), (2, "sign"), (3, "balance"), (4, "final balance"), (5, "tail's deleghe"),
+    (6, "tail's sum"), (7, "tail's records"),
+];
+
+/// What a listed field held before.
+#[rustfmt::skip]
+const HELD: [(usize, &str); 5] = [
+    (0, "another number"), (1, "nothing but blanks"), (2, "other non-digits"), (3, "the other sign"), (4, "no sign"),
+];
+
+/// How often what came up.
+#[derive(Default)]
+pub struct Tally {
+    answers: [u64; ANSWERS.len()],
+    sorts: [u64; SORTS.len()],
+    lists: [u64; LISTS.len()],
+    fields: [u64; FIELDS.len()],
+    held: [u64; HELD.len()],
+    /// Flows rebalanced by the fields listed.
+    sizes: [u64; 8],
+    /// 23 with a list that would be too short besides, other refusals so too, and
+    /// flows refused though some stored field is wrong before the record told.
+    short_23: u64,
+    short_others: u64,
+    behind: u64,
+    /// 16 for the tail's name.
+    tails: u64,
+    /// Known by the plan: the flow afterwards, and refusals.
+    flows: u64,
+    refusals: u64,
+    /// Second calls.
+    seconds: u64,
+}
+
+impl Tally {
+    fn answer(&mut self, code: u64) {
+        let way = ANSWERS.iter().position(|&(answer, _)| answer == code);
+        self.answers[way.unwrap_or_else(|| panic!("{code} answers no rebalancing"))] += 1;
+    }
+
+    fn count(&mut self, case: &Case, left: &Left) {
+        self.answer(left.code);
+        let (list, changed) = (left.list.len(), &case.account.changed);
+        match case.made.known {
+            Some(Known::Flow(_)) => self.flows += 1,
+            Some(Known::Refused(_)) => self.refusals += 1,
+            None => (),
+        }
+        let short = list / 2 < changed.len();
+        match left.code {
+            0 | 27 => self.lists[list_sort(list, changed.len())] += 1,
+            23 => self.short_23 += u64::from(short),
+            _ => {
+                self.short_others += u64::from(short);
+                self.tails += u64::from(left.code == 16 && left.answer[0] > 1);
+                self.behind += u64::from(changed.first().map_or(false, |field| field[0] < left.answer[0]));
+            }
+        }
+        if left.code == 0 {
+            self.sizes[size(changed.len())] += 1;
+            for &[record, start] in changed {
+                self.field(&case.made.flow[(record as usize - 1) * RECORD..record as usize * RECORD], start as usize);
+            }
+        }
+    }
+
+    /// Counts a field that is listed.
+    fn field(&mut self, record: &[u8], start: usize) {
+        let kind = Kind::of(record).expect("a flow that is rebalanced has records of a kind");
+        let stored = kind.stored();
+        let nth = stored.iter().position(|field| field.0 == start).expect("a stored field");
+        let name = match kind {
+            Kind::Tail => 5 + nth,
+            Kind::Payment => 4,
+            _ => 4 - stored.len() + nth,
+        };
+        self.fields[name] += 1;
+        let field = &record[start - 1..start - 1 + stored[nth].1];
+        self.held[match field {
+            [b'P' | b'N'] => 3,
+            [_] => 4,
+            field if field.iter().all(u8::is_ascii_digit) => 0,
+            field if field.iter().all(|&byte| byte == b' ') => 1,
+            _ => 2,
+        }] += 1;
+    }
+
+    /// What comes up least: an answer, a sort, a list, a field, what it held.
+    pub fn rarest(&self) -> [Option<(u64, String)>; 5] {
+        [
+            sorts::rarest(&self.answers, &ANSWERS, "rebalance"),
+            sorts::rarest(&self.sorts, &SORTS, "rebalance"),
+            sorts::rarest(&self.lists, &LISTS, "rebalance, list:"),
+            sorts::rarest(&self.fields, &FIELDS, "rebalance, listed:"),
+            sorts::rarest(&self.held, &HELD, "rebalance, held:"),
+        ]
+    }
+
+    pub fn print(&self) {
+        sorts::print("answer", &self.answers, &ANSWERS, "rebalance");
+        sorts::print("flow", &self.sorts, &SORTS, "rebalance");
+        sorts::print("list, where 0 or 27 is answered", &self.lists, &LISTS, "rebalance");
+        sorts::print("field listed", &self.fields, &FIELDS, "rebalance");
+        sorts::print("what it held", &self.held, &HELD, "rebalance");
+        let names = ["none", "1", "2-3", "4-8", "9-32", "33-128", "129-512", "more"];
+        let parts: Vec<String> = names.iter().zip(self.sizes).map(|(name, count)| format!("{name}: {count}")).collect();
+        println!("flows rebalanced by fields listed: {}", parts.join(", "));
+        let Tally { short_23, short_others, behind, tails, flows, refusals, seconds, .. } = self;
+        println!("lists too short besides: {short_23} with 23, {short_others} with another refusal");
+        println!("refusals at a record behind wrong fields: {behind}, 16 for the tail's name: {tails}");
+        println!("known by the plan: {flows} flows afterwards, {refusals} refusals");
+        println!("rebalanced once more with a list of no room: {seconds}");
+    }
+}
+
+/// The place in the order of the tally of a list of so many numbers for so many
+/// fields.
+fn list_sort(list: usize, fields: usize) -> usize {
+    match (list, 2 * fields) {
+        (0, 0) => 0,
+        (0, _) => 1,
+        (CHANGED_MOST, _) => 9,
+        (list, exact) if list == exact => 5,
+        (list, exact) if list == exact + 1 => 6,
+        (list, exact) if list == exact + 2 => 7,
+        (list, exact) if list > exact => 8,
+        (list, exact) if list + 1 == exact => 4,
+        (list, exact) if list + 2 == exact => 3,
+        _ => 2,
+    }
+}
+
+/// Which of the ranges of the tally a number of fields is in.
+fn size(fields: usize) -> usize {
+    [0, 1, 3, 8, 32, 128, 512].iter().take_while(|&&end| fields > end).count()
+}
+
+impl Difference {
+    /// What a call left that is not as it must be.
+    fn of(why: String, flow: &[u8], left: &Left) -> Box<Self> {
+        let before = Left { code: 0, flow: flow.to_vec(), list: Vec::new(), answer: Vec::new() };
+        Box::new(Difference { why, before, reference: left.clone(), library: left.clone() })
+    }
+
+    /// Writes `flow`, `after-reference`, `after-library` and `difference.txt`.
+    pub fn write(&self, folder: &Path, case: &str) -> io::Result<String> {
+        fs::create_dir_all(folder)?;
+        let files = [
+            ("flow", &self.before.flow),
+            ("after-reference", &self.reference.flow),
+            ("after-library", &self.library.flow),
+        ];
+        for (name, bytes) in files {
+            fs::write(folder.join(name), bytes)?;
+        }
+        let text = self.text(case);
+        fs::write(folder.join("difference.txt"), &text)?;
+        Ok(text)
+    }
+
+    fn text(&self, case: &str) -> String {
+        let mut text = format!("case: {case}\ndiffers: {}\n", self.why);
+        let Left { flow, list, answer, .. } = &self.before;
+        let (length, records) = (flow.len(), flow.len() / RECORD);
+        text += &format!(
+            "call: f24_rebalance, flow of {length} bytes, {records} records, list of {} numbers\n",
+            list.len()
+        );
+        text += &format!("answer before: {answer:?}\n");
+        for (name, left) in [(ffi::NAME, &self.library), ("reference", &self.reference)] {
+            text += &format!("{name}: answers {}, answer after {:?}\n", left.code, left.answer);
+            let changed: Vec<usize> = (0..length).filter(|&at| flow[at] != left.flow[at]).collect();
+            text += &match (changed.first(), changed.last()) {
+                (Some(&first), Some(&last)) => {
+                    format!("  changed {} bytes of the flow, from {} to {}\n", changed.len(), place(first), place(last))
+                }
+                _ => "  left the flow as it came\n".to_string(),
+            };
+            // Numbers that were not written are mostly larger than any place.
+            let written = left.list.iter().take_while(|&&number| number <= MOST_AMOUNT).count();
+            text += &format!("  list after: {:?}\n", &left.list[..written.min(40)]);
+        }
+        let (one, other) = (&self.library, &self.reference);
+        if let Some(at) = (0..length).find(|&at| one.flow[at] != other.flow[at]) {
+            let (one, other) = (one.flow[at], other.flow[at]);
+            text += &format!("first byte that differs after the call: {}, {one} and {other}\n", place(at));
+        }
+        if let Some(at) = (0..one.list.len()).find(|&at| one.list[at] != other.list[at]) {
+            let (one, other) = (one.list[at], other.list[at]);
+            text += &format!("first number of the list that differs: [{at}], {one} and {other}\n");
+        }
+        text
+    }
+}
+
+/// A place in the flow, counted from 0, as record and position.
+fn place(at: usize) -> String {
+    format!("record {} position {}", at / RECORD + 1, at % RECORD + 1)
+}
