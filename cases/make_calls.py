@@ -1,4 +1,4 @@
-"""Writes the run cases of the other calls: corrections, the calls that read, flows written from sheets, and flows judged by portions. Run from anywhere: python3 cases/make_calls.py"""
+"""Writes the run cases of the other calls: corrections, the calls that read, flows written from sheets, flows judged by portions, and flows that are rebalanced. Run from anywhere: python3 cases/make_calls.py"""
 
 import re
 import sys
@@ -11,6 +11,7 @@ import sheets, sheet_faults, samples        # these too
 import correction
 import portions
 import readings
+import rebalancings
 import sheet
 
 ROOT = Path(__file__).resolve().parent.parent
@@ -52,3 +53,5 @@ framed("write_cases", "sheets", [(name, (length, 0, 0, 0, 0), (data, after), lin
        answers("sheet_vectors.answers"))
 framed("portion_cases", "calls", [(name, numbers, (flow, b" ".join(b"%020d" % n for n in state)), lines, why) for name, numbers, flow, state, lines, why in portions.CALLS],
        answers("portion_vectors.answers"))
+written("mend_cases", [(name, (length, 0, 0, 0, 0), (before, after), lines, why) for name, length, before, after, lines, why in rebalancings.CALLS],
+        answers("rebalance_vectors.answers"))

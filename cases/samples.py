@@ -40,9 +40,9 @@ def ident(kind, element, code, year, office, debit):
     return debit, 0, {13: "##", 15: kind, 16: element, 33: code, 37: year, 71: office, 74: "0" * 11}
 
 
-def regional_tax(build=flow):
+def regional_tax(build=flow, debit=10000):
     """01's printed whole case: Regioni lines (10000, 0) and (0, 2500)."""
-    return build(delega(regioni=[regioni("19", "3802", "00052025", 10000, 0), regioni("19", "3796", "00002024", 0, 2500)],
+    return build(delega(regioni=[regioni("19", "3802", "00052025", debit, 0), regioni("19", "3796", "00002024", 0, 2500)],
                         payer=ROASTERY), name="F24-TORREFAZIONE-003", head=ACCOUNTANT)
 
 
@@ -67,6 +67,11 @@ def wrong_balance():
     return regional_tax().put(6, 46, "000000000012500")
 
 
+def raised_line():
+    """As regional_tax, but its first line was raised from 10000 to 12000 after balancing, and all below left as it was."""
+    return regional_tax().put(4, 29, "000000000012000")
+
+
 def wrong_code():
     """As regional_tax, but two neighbours in the tax code are exchanged, 57 for the year 75. L would be its last letter."""
     return regional_tax().put(2, 11, "BNCLRA57D52G478N")
@@ -88,7 +93,7 @@ def bad_count():
 
 
 SAMPLES = {"regioni.f24": regional_tax(), "all-sections.f24": all_sections(), "wrong-balance.f24": wrong_balance(),
-           "wrong-code.f24": wrong_code()}
+           "wrong-code.f24": wrong_code(), "raised-line.f24": raised_line()}
 
 case("sample-regioni", yes(1, 8, 7500, 2, regioni=(10000, 2500)), SAMPLES["regioni.f24"],
      "01, Examples: the answer printed whole")
