@@ -11,5 +11,6 @@ pub mod Listed
 pub mod WhatChanges
 pub mod JudgedFirst
 pub mod SevenListed
+pub mod OnlyMended
 pub mod TheList
 pub mod OneAnswer

@@ -71,6 +71,14 @@ pub emit-same-stored : (st st′ : State) (r : List ℕ) → storedOf st (kindIn
 unfolding emit
 emit-same-stored st st′ r e = ap (λ (xs : List Stored). putAll xs r) e
 
+-- A record in which fields are written that lie outside its type and its subtype keeps its kind.
+pub kind-put : (xs : List Stored) (r : List ℕ) → Columns xs → length r ≡ 120 → kindIn (putAll xs r) ≡ kindIn r
+unfolding kindIn
+kind-put xs r c l = ap₂ kindOf (ap₂ typeOf (byte 1 (c .first-character)) (byte 2 (c .second-character))) (ap numberOf (putAll-clear xs r (c .laid-out) l 10 2 (c .subtype)))
+  where
+    byte : (i : ℕ) → clear i 1 xs ≡ true → getD (putAll xs r) i 0 ≡ getD r i 0
+    byte i e = byte-of (putAll xs r) i ∙ (ap (λ (b : List ℕ). getD b 0 0) (putAll-clear xs r (c .laid-out) l i 1 e) ∙ sym (byte-of r i))
+
 -- A record that stores nothing stays.
 pub emit-plain : (st : State) (r : List ℕ) → storedOf st (kindIn r) ≡ [] → emit st r ≡ r
 unfolding emit putAll
@@ -118,8 +126,8 @@ module _ (st : State) (r : List ℕ) (l : length r ≡ 120) where
 
   -- Its kind stays.
   pub emit-kind : kindIn (emit st r) ≡ kindIn r
-  unfolding kindIn
-  emit-kind = ap₂ kindOf emit-type (ap numberOf (emit-part 10 2 (places .subtype)))
+  unfolding emit
+  emit-kind = kind-put xs r places l
 
   -- Its delega number stays.
   pub emit-number : valueOf (emit st r) delegaNumber ≡ valueOf r delegaNumber

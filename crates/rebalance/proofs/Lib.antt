@@ -13,3 +13,4 @@ pub mod Passes
 pub mod Outside
 pub mod AsJudged
 pub mod KeptNumbers
+pub mod Alike

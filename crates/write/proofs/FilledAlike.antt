@@ -37,7 +37,7 @@ use Rattle.rebalance.specs.Places.{balanceColumns}
 use Rattle.write.specs.Effect.{filledColumns}
 use Rattle.rebalance.proofs.Outside.{swapped}
 use Rattle.write.proofs.SlotColumns.{slotStored, slot-covers}
-use Rattle.write.proofs.Alike.{Alike, alike-put, alike-stored}
+use Rattle.rebalance.proofs.Alike.{Alike, alike-put, alike-stored}
 
 -- A name of 20 characters, and records that are alike outside the filled columns.
 module _ (name : List ℕ) (n : length name ≡ 20) (d : ℕ) where

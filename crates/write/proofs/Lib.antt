@@ -8,7 +8,6 @@ pub mod KeyedSums
 pub mod SlotColumns
 pub mod CarriesSheet
 pub mod NeverEight
-pub mod Alike
 pub mod FilledAlike
 pub mod OtherState
 pub mod OnlyFlow

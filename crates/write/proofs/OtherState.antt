@@ -20,7 +20,7 @@ use Rattle.rebalance.proofs.Emit.{Kept, kept, kept-each, kept-all, emit-part, e
 use Rattle.sheet.specs.Contents.{Slot}
 use Rattle.sheet.proofs.FilledRecords.{slot-laid}
 use Rattle.write.proofs.SlotColumns.{slotStored, slot-covers}
-use Rattle.write.proofs.Alike.{stored-over}
+use Rattle.rebalance.proofs.Alike.{stored-over}
 
 -- A record of 120 bytes, rebalanced after one state and looked at after another.
 module _ (s st : State) (r : List ℕ) (l : length r ≡ 120) where
