@@ -5,7 +5,7 @@ use super::f24::{judge, rebalance};
 use super::{broken, print_judgement};
 use std::io::{self, Write};
 
-/// Enough for every flow: "four fields for each of 546 records".
+/// Enough for every flow: four fields for each of 546 records.
 const LONGEST_LIST: usize = 4368;
 
 /// Rebalances a flow and prints a line for each field that changed, then the

@@ -1,6 +1,6 @@
 -- Where the judge refuses a flow that can be rebalanced, the field that it names is listed.
 use Prim.Native.Nat.{ℕ, _+_, _-_, _<_}
-use mathlib.Core.Path.{_≡_, refl, sym, ap, ap₂, _∙_}
+use mathlib.Core.Path.{_≡_, refl, sym, ap, _∙_}
 use mathlib.Core.Bool.{Bool, true, false, cond, true≢false}
 use mathlib.Core.List.{List, [], _∷_, _++_}
 use native.Mathlib.Omega.{arith}
@@ -38,9 +38,9 @@ use Rattle.mend.specs.declared.Mending.the-variants.{Mended}
 use Rattle.mend.specs.Changes.{writtenFields, place, changesOf}
 use Rattle.mend.specs.Mending.{mendingOf}
 use Rattle.mend.specs.WhenRefused.{NoneRemains}
-use Rattle.mend.specs.Effect.{recordBehind, Listed, OneOf, first, later}
+use Rattle.mend.specs.Effect.{recordBehind, OneOf, first, later, ListedAt}
 use Rattle.mend.proofs.MendedFlow.{rebalanced-when}
-use Rattle.mend.proofs.Listed.{listed-exactly}
+use Rattle.mend.proofs.Listed.{changed-exactly}
 
 -- A field of a record, in which two records differ, that starts at a position.
 pub record Wrongly (fl : List Field) (r s : List ℕ) (p : ℕ) : Type 0 where
@@ -172,16 +172,23 @@ met f list {n} {k} {p} j h e =
     }
 
 -- "Faults 10 to 13, 15, 18 to 20 .. don't stop it": the field for which the judge refuses the flow so is listed, at the record and the position that the judge tells.
-pub refused-is-listed : (f list : List ℕ) {n k p m : ℕ} → judged f .verdict ≡ Judged.Refused n k p → 9 < n → mendingOf f list ≡ Mended m → Listed (place k p) (changesOf f)
+pub refused-is-listed : (f list : List ℕ) {n k p m : ℕ} → judged f .verdict ≡ Judged.Refused n k p → 9 < n → mendingOf f list ≡ Mended m → ListedAt (changesOf f) k p
 refused-is-listed f list {n} {k} {p} j h e =
     let t = met f list j (omega arith) e in
     let x = fault-differs (headNameOf f) (t .after) (t .one) (t .sized) (t .kept) (t .fits) (λ q. omega arith) (t .fails) in
-    listed-exactly f (t .whole) (place k p) .1
-    (record {
-      before = t .before;
-      field = x .field;
-      there = t .there;
-      written = rw (t .old) (x .one);
-      named = ap₂ place (t .counted) (x .at);
-      differ = rw (t .old, t .new) (x .differ);
-    })
+    record {
+      at = place k p;
+      numbered = refl;
+      starts = refl;
+      listed =
+          changed-exactly f (t .whole) (place k p) .1
+          (record {
+            before = t .before;
+            field = x .field;
+            there = t .there;
+            written = rw (t .old) (x .one);
+            numbered = t .counted;
+            starts = x .at;
+            differ = rw (t .old, t .new) (x .differ);
+          });
+    }

@@ -1,6 +1,6 @@
--- A field is listed exactly when its bytes differ, each in the order of the flow.
+-- The fields that rebalancing changes are those whose bytes differ, and stand in the order of the flow.
 use Prim.Native.Nat.{ℕ, zero, suc, _+_, _*_, _/_, _<_, _≤_}
-use mathlib.Core.Path.{_≡_, refl, sym, ap, _∙_}
+use mathlib.Core.Path.{_≡_, refl, sym, ap, ap₂, _∙_}
 use mathlib.Core.Bool.{Bool, true, false, cond, true≢false}
 use mathlib.Core.List.{List, [], _∷_, _++_}
 use mathlib.Core.Logic.{_⊎_, inl, inr, ⊎-elim, _↔_}
@@ -162,10 +162,10 @@ module _ (f : List ℕ) where
   unfolding changesOf
   few-changes = omega (arith, few-from 0 (recordsOf f) (recordsOf (refreshed f)), length-chunks (length f / 120) f)
 
-  -- "a field is listed exactly when its bytes differ"
-  pub listed-exactly : Whole f → (p : Place) → Listed p (changesOf f) ↔ Differs f (refreshed f) p
+  -- A field is among those that rebalancing changes exactly when its bytes differ.
+  pub changed-exactly : Whole f → (p : Place) → Listed p (changesOf f) ↔ Differs f (refreshed f) p
   unfolding changesOf
-  listed-exactly w p = (there, back)
+  changed-exactly w p = (there, back)
     where
       as-many : length (recordsOf f) ≡ length (recordsOf (refreshed f))
       as-many = omega (arith, length-chunks (length f / 120) f, length-chunks (length (refreshed f) / 120) (refreshed f), refreshed-length f w)
@@ -178,11 +178,12 @@ module _ (f : List ℕ) where
             field = d .inner .field;
             there = d .there;
             written = d .inner .written;
-            named = d .inner .named ∙ ap (λ (k : ℕ). place k (d .inner .field .start + 1)) (let e : 0 + d .before + 1 ≡ d .before + 1 = omega arith in e);
+            numbered = ap (λ (q : Place). q .«record») (d .inner .named) ∙ (let e : 0 + d .before + 1 ≡ d .before + 1 = omega arith in e);
+            starts = ap (λ (q : Place). q .start) (d .inner .named);
             differ = d .inner .differ;
           }
 
       back : Differs f (refreshed f) p → Listed p (changesOf f)
       back d =
-          rw (d .named ∙ ap (λ (k : ℕ). place k (d .field .start + 1)) (let e : d .before + 1 ≡ 0 + d .before + 1 = omega arith in e))
+          rw (ap₂ place (d .numbered ∙ (let e : d .before + 1 ≡ 0 + d .before + 1 = omega arith in e)) (d .starts))
           (from-listed 0 (recordsOf f) (recordsOf (refreshed f)) as-many (d .before) (d .there) (d .field) (d .written) (d .differ))

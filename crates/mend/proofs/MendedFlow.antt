@@ -3,6 +3,7 @@ use Prim.Native.Nat.{ℕ, _+_, _*_, _≤_}
 use mathlib.Core.Path.{_≡_, refl, sym, ap, _∙_}
 use mathlib.Core.Bool.{true}
 use mathlib.Core.List.{List, [], _∷_, _++_}
+use mathlib.Core.Logic.{_↔_}
 use native.Mathlib.Omega.{arith}
 use lib.ListN.{length}
 use Rattle.layout.specs.declared.Field.{Field}
@@ -19,8 +20,9 @@ use Rattle.judge.specs.declared.Verdict.the-variants.{Accepted}
 use Rattle.judge.specs.Flow.{acceptedWith, recordsOf, headNameOf, judged}
 use Rattle.judge.specs.Plain.{stateAfter}
 use Rattle.judge.proofs.Accepted.{accepted-means-no-fault}
-use Rattle.rebalance.specs.Rebalance.{allFit, refreshed, Mendable}
-use Rattle.rebalance.proofs.Rebalanced.{mendable-fits}
+use Rattle.rebalance.specs.Rebalance.{rebalanced, allFit, refreshed, Mendable}
+use Rattle.rebalance.proofs.Rebalanced.{sized-rebalanced, mendable-fits, fits-rebalanced}
+use Rattle.rebalance.proofs.Flat.{records-flat}
 use Rattle.rebalance.proofs.Judged.{sized-records, judged-rebalanced, accepted-untouched, accepted-mends}
 use Rattle.lenient.proofs.Mends.{lenient-mends}
 use Rattle.mend.specs.declared.Mending.{Mending}
@@ -51,6 +53,26 @@ mendable-none : (name : List ℕ) (st : State) (rs : List (List ℕ)) → Mendab
 unfolding stateAfter
 mendable-none name st [] m = (tt, m)
 mendable-none name st (r ∷ rs) m = let h = mendable-none name (next st r) rs (m .3) in ((m .1, h .0), h .1)
+
+-- A flow in which no fault remains.
+module _ (f : List ℕ) (m : Mends f) where
+  -- Where its values fit, it is accepted once it is rebalanced, with the sums of its lines.
+  fitting-accepted : allFit startState (recordsOf f) ≡ true → judged (refreshed f) ≡ acceptedWith (stateAfter startState (recordsOf f))
+  unfolding refreshed
+  fitting-accepted b =
+      let w = m .whole in
+      judged-rebalanced f w (lenient-mends (headNameOf f) 0 0 startState (recordsOf f) (sized-records f (w .even)) (remaining-lenient (headNameOf f) startState (recordsOf f) ∙ all-remain (headNameOf f) startState (recordsOf f) (m .passes) (m .ended)) b)
+
+  -- "then 23": its values fit exactly where it is accepted once it is rebalanced.
+  pub fits-exactly : (allFit startState (recordsOf f) ≡ true) ↔ (judged (refreshed f) .verdict ≡ Accepted)
+  unfolding refreshed
+  fits-exactly = (λ b. ap (λ (j : Judgement). j .verdict) (fitting-accepted b), back)
+    where
+      back : judged (refreshed f) .verdict ≡ Accepted → allFit startState (recordsOf f) ≡ true
+      back a =
+          let z = sized-records f (m .whole .even) in
+          let r : recordsOf (refreshed f) ≡ rebalanced startState (recordsOf f) = records-flat (rebalanced startState (recordsOf f)) (sized-rebalanced startState (recordsOf f) z) in
+          sym (fits-rebalanced startState (recordsOf f) z) ∙ (ap (allFit startState) (sym r) ∙ mendable-fits (headNameOf (refreshed f)) startState (recordsOf (refreshed f)) (accepted-mends (refreshed f) a))
 
 -- A flow that is rebalanced, with n fields listed.
 pub record Rebalanced (f list : List ℕ) (n : ℕ) : Type 0 where
@@ -84,12 +106,7 @@ module _ (f list : List ℕ) where
 
   -- "After it the flow is accepted", with the sums of its lines.
   pub mended-accepted : {n : ℕ} → mendingOf f list ≡ Mended n → judged (mendedFlow f list) ≡ acceptedWith (stateAfter startState (recordsOf f))
-  unfolding refreshed
-  mended-accepted e =
-      let b = rebalanced-when e in
-      let w = b .mends .whole in
-      let m = lenient-mends (headNameOf f) 0 0 startState (recordsOf f) (sized-records f (w .even)) (remaining-lenient (headNameOf f) startState (recordsOf f) ∙ all-remain (headNameOf f) startState (recordsOf f) (b .mends .passes) (b .mends .ended)) (b .fits) in
-      ap judged (flow-by e) ∙ judged-rebalanced f w m
+  mended-accepted e = let b = rebalanced-when e in ap judged (flow-by e) ∙ fitting-accepted f (b .mends) (b .fits)
 
   -- "with nothing written"
   pub refused-stays : {n r p : ℕ} → mendingOf f list ≡ Refused n r p → (mendedFlow f list ≡ f) × (mendedList f list ≡ list)

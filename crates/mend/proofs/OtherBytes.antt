@@ -1,4 +1,4 @@
--- Every byte outside the fields that are written stays; and a field that is written holds what its record stores.
+-- Every byte outside the fields that are written stays.
 use Prim.Native.Nat.{ℕ, zero, suc, _/_, _%_}
 use mathlib.Core.Path.{_≡_, refl, sym, ap, _∙_}
 use mathlib.Core.Bool.{false}

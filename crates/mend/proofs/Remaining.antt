@@ -1,7 +1,6 @@
 -- The faults that remain in records, one by one: none where each passes and the last is EF, else that of the first record that has one, else 5.
 use Prim.Native.Nat.{ℕ, suc, _+_}
 use mathlib.Core.Path.{_≡_, refl, ap, ap₂, _∙_}
-use mathlib.Core.Bool.{Bool, true, false}
 use mathlib.Core.List.{List, [], _∷_, _++_}
 use native.Mathlib.Omega.{arith}
 use native.Mathlib.Decide.{ℕ-discrete}
@@ -10,35 +9,32 @@ use lib.ListN.{length}
 use Rattle.text.specs.declared.Characters.{Characters}
 use Rattle.text.specs.declared.Characters.the-variants.{Allowed, BadAt}
 use Rattle.text.specs.Characters.{firstBad}
-use Rattle.layout.specs.Kinds.{kindIn}
 use Rattle.amounts.specs.declared.Outcome.{Outcome}
 use Rattle.amounts.specs.declared.Outcome.the-variants.{Pass, Fault}
 use Rattle.order.specs.Stages.{afterTail}
 use Rattle.rules.specs.declared.State.{State}
-use Rattle.rules.specs.Stored.{storedOf}
 use Rattle.rules.specs.Step.{next}
 use Rattle.judge.specs.Plain.{stateAfter}
-use Rattle.rebalance.specs.Rebalance.{fitsAll, keptFault}
-use Rattle.rebalance.proofs.AsJudged.{kept-as-judged}
+use Rattle.rebalance.specs.Rebalance.{keptFault}
+use Rattle.rebalance.proofs.AsJudged.{kept-then-stored}
 use Rattle.lenient.specs.declared.Lenient.{Lenient}
 use Rattle.lenient.specs.declared.Lenient.the-variants as Kept
 use Rattle.lenient.specs.Lenient.{orRefused, ended, lenientFrom}
 use Rattle.lenient.proofs.Mends.{lenient-kept}
 use Rattle.mend.specs.Mending.{remainingFrom}
-use Rattle.mend.specs.WhenRefused.{Remains, BadCharacter, AsRebalanced, Unstorable, NoneRemains, FirstRemaining}
+use Rattle.mend.specs.WhenRefused.{Remains, BadCharacter, AsRebalanced, NoneRemains, FirstRemaining}
 
 -- What is said of one record: 3 by its characters, then what the judge says of it once it is rebalanced.
 pub record-says : (name : List ℕ) (st : State) (r : List ℕ) → length r ≡ 120 → Remains name st r (keptFault name st r)
 unfolding keptFault
-record-says name st r l = go (firstBad r) (fitsAll (storedOf st (kindIn r))) refl refl
+record-says name st r l = go (firstBad r) refl
   where
     bad : {i : ℕ} → firstBad r ≡ BadAt i → keptFault name st r ≡ Fault 3 (i + 1)
     bad e = rw e
 
-    go : (c : Characters) (f : Bool) → firstBad r ≡ c → fitsAll (storedOf st (kindIn r)) ≡ f → Remains name st r (keptFault name st r)
-    go (BadAt i) f p w = rw (bad p) (BadCharacter p)
-    go Allowed true p w = rw (kept-as-judged name st r l p w) (AsRebalanced p w)
-    go Allowed false p w = Unstorable p w
+    go : (c : Characters) → firstBad r ≡ c → Remains name st r (keptFault name st r)
+    go (BadAt i) p = rw (bad p) (BadCharacter p)
+    go Allowed p = AsRebalanced p (kept-then-stored name st r l p)
 
 -- The records that are left, behind a state.
 module _ (name : List ℕ) where

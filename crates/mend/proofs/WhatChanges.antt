@@ -1,9 +1,9 @@
--- What rebalancing changes: nothing outside the fields that are written, and every byte that changes lies in a field that is listed.
+-- What rebalancing changes: nothing outside the fields that are written; a field is listed exactly when its bytes differ, and every byte that changes lies in one that is.
 use Prim.Native.Nat.{ℕ, _+_, _-_, _/_, _%_, _<_, _≤_}
 use mathlib.Core.Path.{_≡_, refl, sym, ap, _∙_}
 use mathlib.Core.Bool.{Bool, true, false, false≢true}
 use mathlib.Core.List.{List, [], _∷_}
-use mathlib.Core.Logic.{⊎-elim}
+use mathlib.Core.Logic.{⊎-elim, _↔_}
 use native.Mathlib.Omega.{arith}
 use native.Mathlib.Decide.{decLt}
 use lib.ListN.{length, drop, getD, List·getD-eq-default}
@@ -20,12 +20,12 @@ use Rattle.rebalance.proofs.Flat.{flat-byte}
 use Rattle.rebalance.proofs.Judged.{sized-records, flat-records}
 use Rattle.mend.specs.declared.Mending.{Mending}
 use Rattle.mend.specs.declared.Mending.the-variants.{Mended, Refused}
-use Rattle.mend.specs.Changes.{writtenFields, changesOf}
+use Rattle.mend.specs.Changes.{writtenFields, Place, place, changesOf}
 use Rattle.mend.specs.Mending.{mendingOf, mendedFlow}
-use Rattle.mend.specs.Effect.{recordBehind, mayChange, OneOf, first, later, InListed}
+use Rattle.mend.specs.Effect.{recordBehind, mayChange, Listed, OneOf, first, later, Differs, InListed}
 use Rattle.mend.proofs.MendedFlow.{rebalanced-when, flow-by}
 use Rattle.mend.proofs.OtherBytes.{refreshed-length, refreshed-byte}
-use Rattle.mend.proofs.Listed.{listed-exactly}
+use Rattle.mend.proofs.Listed.{changed-exactly}
 
 -- An index in columns lies in one of them.
 record Within (c : ℕ) (fl : List Field) : Type 0 where
@@ -79,14 +79,18 @@ module _ (f : List ℕ) (w : Whole f) (i : ℕ) (d : getD (refreshed f) i 0 ≡ 
         written = x .one;
         from = x .from;
         to = x .to;
+        at = place (i / 120 + 1) (g .start + 1);
+        numbered = refl;
+        starts = refl;
         listed =
-            listed-exactly f w _ .1
+            changed-exactly f w _ .1
             (record {
               before = i / 120;
               field = g;
               there = omega (arith, in-flow, length-chunks (length f / 120) f, w .even);
               written = x .one;
-              named = refl;
+              numbered = refl;
+              starts = refl;
               differ = λ e. d (flow-byte (refreshed f) even i ∙ (sym (field-byte new g (i % 120) (x .from) (x .to)) ∙ (ap (λ (b : List ℕ). getD b (i % 120 - g .start) 0) (sym e) ∙ (field-byte old g (i % 120) (x .from) (x .to) ∙ sym (flow-byte f (w .even) i)))));
             });
       }
@@ -112,3 +116,7 @@ module _ (f list : List ℕ) where
   -- A byte that changes lies in a field that is listed.
   pub changed-is-listed : (i : ℕ) → (getD (mendedFlow f list) i 0 ≡ getD f i 0 → ⊥) → InListed f (changesOf f) i
   changed-is-listed i d = by-answer (λ s. (getD s i 0 ≡ getD f i 0 → ⊥) → InListed f (changesOf f) i) (λ h. absurd (h refl)) (λ w h. byte-in-listed f w i h) d
+
+  -- "a field is listed exactly when its bytes differ"
+  pub listed-exactly : {n : ℕ} → mendingOf f list ≡ Mended n → (p : Place) → Listed p (changesOf f) ↔ Differs f (mendedFlow f list) p
+  listed-exactly e p = rw (flow-by f list e) (changed-exactly f (rebalanced-when f list e .mends .whole) p)

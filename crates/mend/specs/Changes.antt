@@ -25,11 +25,12 @@ writtenFields Addressee = []
 writtenFields Tail = tailDeleghe ∷ tailSum ∷ tailRecords ∷ []
 writtenFields Unknown = []
 
--- "with record and start": both counted from 1
+-- "with record and start": a field of the flow
 pub record Place : Type 0 where
   pub «record» : ℕ
   pub start : ℕ
 
+-- the same, of a record and a start that are given: "a record counted from 1", "Positions count from 1"
 abbrev pub place : ℕ → ℕ → Place
 place k p = record { «record» = k; start = p }
 
@@ -49,11 +50,11 @@ changedFrom k [] news = []
 changedFrom k (r ∷ rs) [] = []
 changedFrom k (r ∷ rs) (s ∷ ss) = changedIn (k + 1) (writtenFields (kindIn r)) r s ++ changedFrom (k + 1) rs ss
 
--- of a flow, as it is and as rebalancing leaves it
+-- "lists each field changed": of a flow as it is and as rebalancing leaves it
 unfoldable pub changesOf : List ℕ → List Place
 changesOf f = changedFrom 0 (recordsOf f) (recordsOf (refreshed f))
 
--- the numbers of the list: record and start of each field
+-- "with record and start": the numbers of the list, two for each field
 unfoldable pub placeNumbers : List Place → List ℕ
 placeNumbers [] = []
 placeNumbers (p ∷ ps) = p .«record» ∷ p .start ∷ placeNumbers ps

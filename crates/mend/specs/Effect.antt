@@ -9,7 +9,7 @@ use Rattle.layout.specs.declared.Field.{Field}
 use Rattle.layout.specs.Kinds.{kindIn}
 use Rattle.layout.specs.Fields.{bytesOf, inColumns}
 use Rattle.judge.specs.Flow.{recordsOf}
-use Rattle.mend.specs.Changes.{writtenFields, Place, place}
+use Rattle.mend.specs.Changes.{writtenFields, Place}
 
 -- The record behind q others.
 abbrev pub recordBehind : List ℕ → ℕ → List ℕ
@@ -29,13 +29,14 @@ pub data OneOf (g : Field) : List Field → Type 0 where
   first : {f : Field} {fs : List Field} → g ≡ f → OneOf g (f ∷ fs)
   later : {f : Field} {fs : List Field} → OneOf g fs → OneOf g (f ∷ fs)
 
--- "a field is listed exactly when its bytes differ": a place is the record, counted from 1, and the start, counted from 1, of a field that is written, and its bytes differ in two flows.
+-- "a field is listed exactly when its bytes differ": a place has the record and the start, both counted from 1, of a field that is written, and its bytes differ in two flows.
 pub record Differs (old new : List ℕ) (p : Place) : Type 0 where
   pub before : ℕ
   pub field : Field
   pub there : before < length (recordsOf old)
   pub written : OneOf field (writtenFields (kindIn (recordBehind old before)))
-  pub named : p ≡ place (before + 1) (field .start + 1)
+  pub numbered : p .«record» ≡ before + 1
+  pub starts : p .start ≡ field .start + 1
   pub differ : bytesOf (recordBehind old before) field ≡ bytesOf (recordBehind new before) field → ⊥
 
 -- "in the order of the flow": one place stands before another in the flow.
@@ -57,4 +58,14 @@ pub record InListed (f : List ℕ) (ps : List Place) (i : ℕ) : Type 0 where
   pub written : OneOf field (writtenFields (kindIn (recordBehind f (i / 120))))
   pub from : field .start ≤ i % 120
   pub to : i % 120 < field .end
-  pub listed : Listed (place (i / 120 + 1) (field .start + 1)) ps
+  pub at : Place
+  pub numbered : at .«record» ≡ i / 120 + 1
+  pub starts : at .start ≡ field .start + 1
+  pub listed : Listed at ps
+
+-- A place is listed whose record and start these are.
+pub record ListedAt (ps : List Place) (k p : ℕ) : Type 0 where
+  pub at : Place
+  pub numbered : at .«record» ≡ k
+  pub starts : at .start ≡ p
+  pub listed : Listed at ps

@@ -18,7 +18,7 @@ use Rattle.mend.specs.declared.Mending.{Mending}
 use Rattle.mend.specs.declared.Mending.the-variants.{Mended, Refused}
 use Rattle.mend.specs.Changes.{Place, changesOf, placeNumbers}
 
--- the refusal of an answer; a flow that is rebalanced has none
+-- "A refusal is a number, a record counted from 1, and a position": that of an answer; a flow that is rebalanced has none
 abbrev pub refusalMended : Mending → Refusal
 refusalMended (Mended n) = noRefusal
 refusalMended (Refused n r p) = refusal n r p
@@ -48,22 +48,24 @@ abbrev pub unless : Lenient → Mending → Mending
 unless Kept.Passed m = m
 unless (Kept.Refused n r p) m = Refused n r p
 
--- the answer to a flow and a list
+-- "Refusals ..: the first remaining fault of 01's checks, then 23, then 27": the answer to a flow and a list
 unfoldable pub mendingOf : List ℕ → List ℕ → Mending
 mendingOf f list = unless (remaining f) (weighed (length list) f)
 
--- the flow afterwards: rebalanced, or, "with nothing written", as it came
+-- "rewrites every total, sign, balance, final balance and tail value from the lines"; or, "with nothing written", as it came
 abbrev pub flowBy : Mending → List ℕ → List ℕ → List ℕ
 flowBy (Mended n) new old = new
 flowBy (Refused n r p) new old = old
 
+-- the flow afterwards
 unfoldable pub mendedFlow : List ℕ → List ℕ → List ℕ
 mendedFlow f list = flowBy (mendingOf f list) (refreshed f) f
 
--- the list afterwards: the fields that changed, and past them what was there
+-- "lists each field changed"; "a call that succeeds leaves so the lent room past what it writes", and a refusal all of it
 abbrev pub listBy : Mending → List Place → List ℕ → List ℕ
 listBy (Mended n) ps list = overlay (placeNumbers ps) list
 listBy (Refused n r p) ps list = list
 
+-- the list afterwards
 unfoldable pub mendedList : List ℕ → List ℕ → List ℕ
 mendedList f list = listBy (mendingOf f list) (changesOf f) list

@@ -10,25 +10,25 @@ use Rattle.text.specs.Characters.{firstBad}
 use Rattle.layout.specs.Kinds.{kindIn}
 use Rattle.amounts.specs.declared.Outcome.{Outcome}
 use Rattle.amounts.specs.declared.Outcome.the-variants.{Pass, Fault}
+use Rattle.amounts.specs.Outcomes.{first}
 use Rattle.order.specs.Stages.{afterTail}
 use Rattle.rules.specs.declared.State.{State}
 use Rattle.rules.specs.State.{startState}
-use Rattle.rules.specs.Stored.{storedOf}
+use Rattle.rules.specs.Stored.{storedOf, wrong}
 use Rattle.rules.specs.Checks.{fault}
 use Rattle.rules.specs.Step.{next}
 use Rattle.judge.specs.Flow.{recordsOf, headNameOf}
 use Rattle.judge.specs.Plain.{Whole, stateAfter}
-use Rattle.rebalance.specs.Rebalance.{emit, fitsAll, allFit, keptFault}
+use Rattle.rebalance.specs.Rebalance.{emit, allFit, keptFault}
 use Rattle.mend.specs.declared.Mending.{Mending}
 use Rattle.mend.specs.declared.Mending.the-variants.{Mended, Refused}
 use Rattle.mend.specs.Changes.{changesOf}
 
--- "the first remaining fault of 01's checks" in one record, after a state: 3 of its bytes as they are, those of a rewritten field too; then what the judge says of the record once it is rebalanced. Where
--- what would be stored does not fit, it can't be judged so, and the checks that rebalancing leaves alone speak.
+-- "the first remaining fault of 01's checks" in one record, after a state: 3 of its bytes as they are, those of a rewritten field too; else what the judge says of the record once it is rebalanced, but for what it says
+-- of its stored fields, which are then wrong only where a value does not fit.
 pub data Remains (name : List ℕ) (st : State) (r : List ℕ) : Outcome → Type 0 where
   BadCharacter : {i : ℕ} → firstBad r ≡ BadAt i → Remains name st r (Fault 3 (i + 1))
-  AsRebalanced : firstBad r ≡ Allowed → fitsAll (storedOf st (kindIn r)) ≡ true → Remains name st r (fault name st (emit st r))
-  Unstorable : firstBad r ≡ Allowed → fitsAll (storedOf st (kindIn r)) ≡ false → Remains name st r (keptFault name st r)
+  AsRebalanced : {o : Outcome} → firstBad r ≡ Allowed → fault name st (emit st r) ≡ first o (wrong (storedOf st (kindIn r)) (emit st r)) → Remains name st r o
 
 -- No fault remains in records.
 abbrev pub NoneRemains : List ℕ → State → List (List ℕ) → Type 0

@@ -158,8 +158,8 @@ module _ (st : State) (r : List ℕ) (l : length r ≡ 120) where
   emit-allowed e = putAll-allowed xs r laid-out l (printable-stored (storing st r)) e
 
   -- Its numeric fields are of digits after rebalancing, where the kept ones are.
-  emit-numbers : fitsAll (storedOf st (kindIn r)) ≡ true → badFields (keptFields (kindIn r)) (emit st r) ≡ Pass → badFields (fieldsOf (kindIn r)) (emit st r) ≡ Pass
-  emit-numbers f e = fields-same (storing st r) (emit st r) .1 (rw e (holds-numbers xs (emit st r) f emit-holds))
+  emit-numbers : badFields (keptFields (kindIn r)) (emit st r) ≡ Pass → badFields (fieldsOf (kindIn r)) (emit st r) ≡ Pass
+  emit-numbers e = fields-same (storing st r) (emit st r) .1 (rw e (holds-numbers xs (emit st r) emit-holds))
 
   -- A record that passes the checks that rebalancing leaves alone passes all after it, where what is written fits.
   pub emit-passes : (name : List ℕ) → keptFault name st r ≡ Pass → fitsAll (storedOf st (kindIn r)) ≡ true → fault name st (emit st r) ≡ Pass
@@ -167,7 +167,7 @@ module _ (st : State) (r : List ℕ) (l : length r ≡ 120) where
   emit-passes name e f =
       let a = kept-each name st r e in
       let k = emit-kept name in
-      rw (emit-type, emit-kind, emit-number, emit-allowed (allowed-of (firstBad r) (a .characters)), a .order, emit-numbers f (k .fields ∙ a .digits), a .number, k .own ∙ a .own) (holds-pass xs (emit st r) f emit-holds)
+      rw (emit-type, emit-kind, emit-number, emit-allowed (allowed-of (firstBad r) (a .characters)), a .order, emit-numbers (k .fields ∙ a .digits), a .number, k .own ∙ a .own) (holds-pass xs (emit st r) f emit-holds)
 
   -- A record that passes every check passes those that rebalancing leaves alone, and its stored fields are of digits and right.
   fault-parts : (name : List ℕ) → fault name st r ≡ Pass → (keptFault name st r ≡ Pass) × (badFields (valueFields (storedOf st (kindIn r))) r ≡ Pass) × (wrong (storedOf st (kindIn r)) r ≡ Pass)

@@ -1,17 +1,19 @@
 -- The laws of rebalancing records: those that it mends are accepted after it with the sums of their lines, and those without a fault are their own rebalancing.
 use Prim.Native.Nat.{ℕ, suc}
 use mathlib.Core.Path.{_≡_, refl, ap, ap₂, _∙_}
-use mathlib.Core.Bool.{true}
+use mathlib.Core.Bool.{Bool, true, false, cond}
 use mathlib.Core.List.{List, [], _∷_, _++_}
 use borrow.Author.Tests.{eq-eqb}
 use lib.ListN.{length}
+use Rattle.layout.specs.Kinds.{kindIn}
 use Rattle.rules.specs.declared.State.{State}
 use Rattle.order.specs.Stages.{afterTail}
+use Rattle.rules.specs.Stored.{storedOf}
 use Rattle.rules.specs.Step.{next}
 use Rattle.judge.specs.Flow.{acceptedWith, closing, judgedFrom}
 use Rattle.judge.specs.Plain.{stateAfter, NoFault}
-use Rattle.rebalance.specs.Rebalance.{emit, rebalanced, allFit, Sized, Mendable}
-use Rattle.rebalance.proofs.Emit.{emit-length, next-emit, emit-again, emit-passes, fault-kept, fault-fits, emit-own}
+use Rattle.rebalance.specs.Rebalance.{emit, rebalanced, fitsAll, allFit, Sized, Mendable}
+use Rattle.rebalance.proofs.Emit.{emit-length, emit-kind, next-emit, emit-again, emit-passes, fault-kept, fault-fits, emit-own}
 
 -- Records that rebalancing mends are accepted after it, with the sums of their lines.
 pub rebalanced-accepted : (name : List ℕ) (st : State) (rs : List (List ℕ)) → Mendable name st rs → judgedFrom name st (rebalanced st rs) ≡ acceptedWith (stateAfter st rs)
@@ -72,3 +74,9 @@ pub mendable-fits : (name : List ℕ) (st : State) (rs : List (List ℕ)) → Me
 unfolding allFit
 mendable-fits name st [] m = refl
 mendable-fits name st (r ∷ rs) m = rw (m .2) (mendable-fits name (next st r) rs (m .3))
+
+-- What rebalancing writes into rebalanced records fits where it does in the records as they were.
+pub fits-rebalanced : (st : State) (rs : List (List ℕ)) → Sized rs → allFit st (rebalanced st rs) ≡ allFit st rs
+unfolding allFit rebalanced
+fits-rebalanced st [] z = refl
+fits-rebalanced st (r ∷ rs) z = rw (emit-kind st r (z .0), next-emit st r (z .0)) (ap (λ (b : Bool). cond (fitsAll (storedOf st (kindIn r))) b false) (fits-rebalanced (next st r) rs (z .1)))

@@ -1,7 +1,7 @@
 -- Stored fields that stand apart within a record: what the record holds once they are written, and what passing their checks says of it.
 use Prim.Native.Nat.{ℕ, _+_, _-_, _^_, _<_, _≤_}
 use mathlib.Core.Path.{_≡_, refl, sym, ap, _∙_}
-use mathlib.Core.Bool.{Bool, true, false, cond}
+use mathlib.Core.Bool.{Bool, true, false, cond, true≢false}
 use mathlib.Core.List.{List, [], _∷_}
 use native.Mathlib.Omega.{arith}
 use borrow.Author.Tests.{ltb-true, lt-ltb, leb-true, eqb-true, eq-eqb}
@@ -12,9 +12,10 @@ use Rattle.text.specs.declared.Characters.the-variants.{Allowed}
 use Rattle.text.specs.declared.Digits.{Digits}
 use Rattle.text.specs.declared.Digits.the-variants.{Number, NonDigit, TooLong}
 use Rattle.text.specs.Characters.{firstBad}
-use Rattle.text.specs.Numbers.{numberOf, amountOf}
+use Rattle.text.specs.Numbers.{numberOf, amountOf, digitsOf}
 use Rattle.text.specs.Placing.{putAt}
 use Rattle.text.proofs.Numerals.{number-below, number-digits, length-digits, digits-of-number}
+use Rattle.text.proofs.NonDigits.{Tells, non-digit, digits-told, written-digits}
 use Rattle.text.proofs.Puts.{length-put, put-here, put-after, put-before, put-same, put-allowed}
 use Rattle.layout.specs.declared.Field.{Field}
 use Rattle.layout.specs.Fields.{bytesOf, valueOf}
@@ -128,12 +129,20 @@ valueFields (Mark n c b ∷ xs) = valueFields xs
 holds-number : (n : ℕ) (f : Field) (v : ℕ) (r : List ℕ) → fitsOne (Value n f v) ≡ true → bytesOf r f ≡ textOf (Value n f v) → numberOf (bytesOf r f) ≡ Number v
 holds-number n f v r h o = ap numberOf o ∙ number-digits (f .end - f .start) v (ltb-true v (10 ^ (f .end - f .start)) h)
 
--- Held fields that fit are made of digits.
-pub holds-numbers : (xs : List Stored) (r : List ℕ) → fitsAll xs ≡ true → Holds xs r → badFields (valueFields xs) r ≡ Pass
-unfolding badFields valueFields fitsAll
-holds-numbers [] r f o = refl
-holds-numbers (Value n g v ∷ xs) r f o = let p = both-true _ _ f in rw (holds-number n g v r (p .0) (o .0)) (holds-numbers xs r (p .1) (o .1))
-holds-numbers (Mark n c b ∷ xs) r f o = holds-numbers xs r f (o .1)
+-- Digits that are written read as a number, also where the number that they were written for has more.
+written-number : (w n : ℕ) → (v : ℕ) × (numberOf (digitsOf w n) ≡ Number v)
+written-number w n = go (numberOf (digitsOf w n)) refl (digits-told (digitsOf w n))
+  where
+    go : (d : Digits) → numberOf (digitsOf w n) ≡ d → Tells 0 (digitsOf w n) d → (v : ℕ) × (numberOf (digitsOf w n) ≡ Number v)
+    go (Number v) e t = (v, e)
+    go (NonDigit k) e (non-digit m q h x g) = absurd (true≢false (sym (written-digits w n m (omega (arith, length-digits w n))) ∙ x))
+
+-- Held fields are made of digits, whether they fit or not.
+pub holds-numbers : (xs : List Stored) (r : List ℕ) → Holds xs r → badFields (valueFields xs) r ≡ Pass
+unfolding badFields valueFields
+holds-numbers [] r o = refl
+holds-numbers (Value n g v ∷ xs) r o = rw (ap numberOf (o .0) ∙ written-number (g .end - g .start) v .1) (holds-numbers xs r (o .1))
+holds-numbers (Mark n c b ∷ xs) r o = holds-numbers xs r (o .1)
 
 -- A held field that fits is right.
 pub holds-right : (x : Stored) (r : List ℕ) → fitsOne x ≡ true → take (widthOf x) (drop (startOf x) r) ≡ textOf x → right x r ≡ true

@@ -8,6 +8,7 @@ use Rattle.text.specs.declared.Characters.the-variants.{Allowed, BadAt}
 use Rattle.text.specs.Characters.{firstBad}
 use Rattle.amounts.specs.declared.Outcome.{Outcome}
 use Rattle.amounts.specs.declared.Outcome.the-variants.{Pass, Fault}
+use Rattle.amounts.specs.Outcomes.{first}
 use Rattle.rules.specs.declared.State.{State}
 use Rattle.rules.specs.State.{startState}
 use Rattle.rules.specs.Checks.{fault}
@@ -15,8 +16,8 @@ use Rattle.rules.specs.Step.{next}
 use Rattle.judge.specs.Refusal.{Refusal, refusal}
 use Rattle.judge.specs.Plain.{stateAfter}
 use Rattle.layout.specs.Kinds.{kindIn}
-use Rattle.rules.specs.Stored.{storedOf}
-use Rattle.rebalance.specs.Rebalance.{emit, fitsAll, allFit, keptFault}
+use Rattle.rules.specs.Stored.{storedOf, wrong}
+use Rattle.rebalance.specs.Rebalance.{emit, allFit}
 use Rattle.sheet.specs.Slots.{slotFault}
 use Rattle.sheet.specs.Sheet.{Entry, sheetOf}
 use Rattle.sheet.specs.Filled.{filled, filledAll}
@@ -27,13 +28,13 @@ use Rattle.write.specs.Writing.{nameIn, entryFault, entriesRead}
 abbrev pub entriesIn : List ℕ → List Entry
 entriesIn sheet = entriesRead (sheetOf sheet)
 
--- "01's first fault, in the records to be written, with every filled field taken as right and 4 for a record not of its slot's kind": what is said of one record, after a state. Where
--- what it would store does not fit, it can't be judged as written, and the checks that rebalancing leaves alone speak.
+-- "01's first fault, in the records to be written, with every filled field taken as right and 4 for a record not of its slot's kind": what is said of one record, after a state. Behind 3 and that 4 it is what the judge says of the
+-- record as it will be written, but for what it says of its stored fields, which are then wrong only where a value does not fit.
 pub data EntrySays (name : List ℕ) (st : State) (e : Entry) : Outcome → Type 0 where
   BadCharacter : {i : ℕ} → firstBad (filled name e) ≡ BadAt i → EntrySays name st e (Fault 3 (i + 1))
   OutOfSlot : {n p : ℕ} → firstBad (filled name e) ≡ Allowed → slotFault (e .slot) (filled name e) ≡ Fault n p → EntrySays name st e (Fault n p)
-  AsWritten : firstBad (filled name e) ≡ Allowed → slotFault (e .slot) (filled name e) ≡ Pass → fitsAll (storedOf st (kindIn (filled name e))) ≡ true → EntrySays name st e (fault name st (emit st (filled name e)))
-  Unstorable : firstBad (filled name e) ≡ Allowed → slotFault (e .slot) (filled name e) ≡ Pass → fitsAll (storedOf st (kindIn (filled name e))) ≡ false → EntrySays name st e (keptFault name st (filled name e))
+  AsWritten : {o : Outcome} → firstBad (filled name e) ≡ Allowed → slotFault (e .slot) (filled name e) ≡ Pass →
+      fault name st (emit st (filled name e)) ≡ first o (wrong (storedOf st (kindIn (filled name e))) (emit st (filled name e))) → EntrySays name st e o
 
 -- No record of a list has a fault, in its slot and with what is filled.
 abbrev pub NoEntryFault : List ℕ → State → List Entry → Type 0
