@@ -7,9 +7,9 @@ use crate::columns::{MOST_BYTES, MOST_RECORDS, RECORD};
 use crate::ffi;
 use crate::forged;
 use crate::lent::{Lent, Place};
+use crate::report;
 use crate::rival;
 use crate::rng::Rng;
-use std::fs;
 use std::io;
 use std::path::Path;
 
@@ -303,11 +303,7 @@ impl Difference {
 
     /// Writes `flow` and `difference.txt`.
     pub fn write(&self, folder: &Path, case: &str) -> io::Result<String> {
-        fs::create_dir_all(folder)?;
-        fs::write(folder.join("flow"), &self.flow)?;
-        let text = self.text(case);
-        fs::write(folder.join("difference.txt"), &text)?;
-        Ok(text)
+        report::write_files(folder, &[("flow", &self.flow)], self.text(case))
     }
 
     fn text(&self, case: &str) -> String {

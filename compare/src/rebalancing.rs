@@ -11,10 +11,10 @@ use crate::mended::Account;
 use crate::payers;
 use crate::quick;
 use crate::rebalance_damage::{Case, Known, SORTS};
+use crate::report;
 use crate::rival;
 use crate::rng::Rng;
 use crate::sorts;
-use std::fs;
 use std::io;
 use std::path::Path;
 
@@ -372,18 +372,12 @@ impl Difference {
 
     /// Writes `flow`, `after-reference`, `after-library` and `difference.txt`.
     pub fn write(&self, folder: &Path, case: &str) -> io::Result<String> {
-        fs::create_dir_all(folder)?;
-        let files = [
+        let files: [(&str, &[u8]); 3] = [
             ("flow", &self.before.flow),
             ("after-reference", &self.reference.flow),
             ("after-library", &self.library.flow),
         ];
-        for (name, bytes) in files {
-            fs::write(folder.join(name), bytes)?;
-        }
-        let text = self.text(case);
-        fs::write(folder.join("difference.txt"), &text)?;
-        Ok(text)
+        report::write_files(folder, &files, self.text(case))
     }
 
     fn text(&self, case: &str) -> String {

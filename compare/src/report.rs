@@ -9,18 +9,25 @@ use std::fs;
 use std::io;
 use std::path::Path;
 
+/// Writes files of these names, and the text as `difference.txt`.
+pub fn write_files(folder: &Path, files: &[(&str, &[u8])], text: String) -> io::Result<String> {
+    fs::create_dir_all(folder)?;
+    for (name, bytes) in files {
+        fs::write(folder.join(name), bytes)?;
+    }
+    fs::write(folder.join("difference.txt"), &text)?;
+    Ok(text)
+}
+
 /// Writes `flow`, `after-reference`, `after-library` where the library was
 /// called, and `difference.txt`.
 pub fn write(folder: &Path, case: &str, difference: &Difference) -> io::Result<String> {
-    fs::create_dir_all(folder)?;
-    fs::write(folder.join("flow"), &difference.flow)?;
-    fs::write(folder.join("after-reference"), &difference.reference.flow)?;
+    let mut files: Vec<(&str, &[u8])> =
+        vec![("flow", &difference.flow), ("after-reference", &difference.reference.flow)];
     if let Some((_, library)) = difference.others.iter().find(|(name, _)| *name == ffi::NAME) {
-        fs::write(folder.join("after-library"), &library.flow)?;
+        files.push(("after-library", &library.flow));
     }
-    let text = text(case, difference);
-    fs::write(folder.join("difference.txt"), &text)?;
-    Ok(text)
+    write_files(folder, &files, text(case, difference))
 }
 
 /// The sides that are not as the reference is.

@@ -7,13 +7,13 @@ use crate::ffi;
 use crate::heads::{self, Dates};
 use crate::lent::{Lent, Place};
 use crate::payers::{self, Codes};
+use crate::report;
 use crate::rival::{self, WRITE_NEEDS};
 use crate::rng::Rng;
 use crate::sevens::{self, Sevens};
 use crate::sheet;
 use crate::sheet_damage::Case;
 use crate::sound::get;
-use std::fs;
 use std::io;
 use std::path::Path;
 
@@ -277,19 +277,13 @@ fn size(number: usize, ends: &[usize]) -> usize {
 impl Difference {
     /// Writes `sheet`, the room before and after, and `difference.txt`.
     pub fn write(&self, folder: &Path, case: &str) -> io::Result<String> {
-        fs::create_dir_all(folder)?;
         let files: [(&str, &[u8]); 4] = [
             ("sheet", &self.sheet),
             ("room-before", &self.room),
             ("room-reference", &self.reference.room),
             ("room-library", &self.library.room),
         ];
-        for (name, bytes) in files {
-            fs::write(folder.join(name), bytes)?;
-        }
-        let text = self.text(case);
-        fs::write(folder.join("difference.txt"), &text)?;
-        Ok(text)
+        report::write_files(folder, &files, self.text(case))
     }
 
     fn text(&self, case: &str) -> String {

@@ -756,15 +756,7 @@ fn spoiled_flows_are_refused_as_the_judgement_does_or_mended() {
     };
     let (mut kept, mut left) = (0, 0);
     for _ in 0..40_000 {
-        let mut flow = sound.clone();
-        for _ in 0..=dice.below(3) {
-            let place = dice.below(flow.len() as u64) as usize;
-            flow[place] = match dice.below(3) {
-                0 => dice.below(256) as u8,
-                1 => b'0' + dice.below(10) as u8,
-                _ => b' ',
-            };
-        }
+        let mut flow = spoiled(&mut dice, &sound);
         if dice.below(8) == 0 {
             let records = dice.below(22) as usize;
             flow.truncate(records * 120);

@@ -1502,20 +1502,26 @@ fn a_corrected_flow_is_the_flow_built_anew() {
     );
 }
 
+/// A copy of a flow in which one to three bytes are others.
+pub fn spoiled(dice: &mut Dice, sound: &[u8]) -> Vec<u8> {
+    let mut flow = sound.to_vec();
+    for _ in 0..=dice.below(3) {
+        let place = dice.below(flow.len() as u64) as usize;
+        flow[place] = match dice.below(3) {
+            0 => dice.below(256) as u8,
+            1 => b'0' + dice.below(10) as u8,
+            _ => b' ',
+        };
+    }
+    flow
+}
+
 #[test]
 fn spoiled_flows_are_answered_alike_by_every_call() {
     let mut dice = Dice(7);
     let sound = three();
     for _ in 0..20_000 {
-        let mut flow = sound.clone();
-        for _ in 0..=dice.below(3) {
-            let place = dice.below(flow.len() as u64) as usize;
-            flow[place] = match dice.below(3) {
-                0 => dice.below(256) as u8,
-                1 => b'0' + dice.below(10) as u8,
-                _ => b' ',
-            };
-        }
+        let mut flow = spoiled(&mut dice, &sound);
         if dice.below(4) == 0 {
             let records = dice.below(22) as usize;
             flow.truncate(records * 120);
