@@ -11,6 +11,7 @@ pub mod Stores
 pub mod Surveys
 pub mod Passes
 pub mod Outside
+pub mod Numbered
 pub mod AsJudged
 pub mod KeptNumbers
 pub mod Alike

@@ -1,3 +1,4 @@
 pub mod Rebalance
 pub mod Weigh
 pub mod Places
+pub mod Numbering

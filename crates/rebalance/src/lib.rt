@@ -1,4 +1,6 @@
 // Rebalancing: every stored field is written anew from the lines.
+mod numbering;
+
 ghost use mathlib.Core.Path.{_≡_};
 ghost use mathlib.Core.Bool.{true};
 ghost use Prim.Native.Nat.{_-_, _^_, _<_};
@@ -19,6 +21,7 @@ use layout::Amount;
 use layout::Field;
 use layout::Flow;
 use layout::Kind;
+pub use numbering::put_delega;
 use rules::State;
 
 // The most that a count of the tail can say in seven digits.

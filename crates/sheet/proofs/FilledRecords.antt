@@ -5,20 +5,18 @@ use mathlib.Core.Bool.{Bool, true, false, cond}
 use mathlib.Core.List.{List, [], _∷_}
 use native.Mathlib.Omega.{arith}
 use lib.ListN.{length}
-use Rattle.text.specs.Numbers.{digitsOf}
 use Rattle.text.specs.Placing.{putAt}
-use Rattle.text.proofs.Numerals.{length-digits}
 use Rattle.text.proofs.Puts.{length-put}
 use Rattle.layout.specs.declared.Kind.{Kind}
-use Rattle.layout.specs.Kinds.{numbered}
 use Rattle.rules.specs.declared.State.{State}
 use Rattle.rules.specs.State.{startState}
 use Rattle.rules.specs.Stored.{storedOf}
 use Rattle.rebalance.specs.Rebalance.{Sized}
 use Rattle.rebalance.proofs.Written.{laid, length-putAll}
+use Rattle.rebalance.proofs.Numbered.{length-number}
 use Rattle.rebalance.proofs.Columns.{Storing, plain, balance, payment, tail, columns}
 use Rattle.sheet.specs.Sheet.{Entry}
-use Rattle.sheet.specs.Filled.{withNumber, isTail, withName, filled, filledAll}
+use Rattle.sheet.specs.Filled.{isTail, withName, filled, filledAll}
 use Rattle.sheet.specs.Contents as In
 use Rattle.sheet.specs.Contents.{Slot, All, Entered}
 
@@ -38,15 +36,6 @@ slot-laid st s = columns (slot-storing st s) .laid-out
 
 -- A record of 120 bytes.
 module _ (k : Kind) (r : List ℕ) (l : length r ≡ 120) where
-  -- The delega number leaves its length.
-  pub length-number : (d : ℕ) → length (withNumber k d r) ≡ 120
-  unfolding withNumber
-  length-number d = go (numbered k)
-    where
-      go : (t : Bool) → length (cond t (putAt 3 (digitsOf 7 d) r) r) ≡ 120
-      go true = length-put 3 (digitsOf 7 d) r (omega (arith, length-digits 7 d)) ∙ l
-      go false = l
-
   -- A name of 20 characters leaves its length.
   pub length-name : (name : List ℕ) → length name ≡ 20 → length (withName k name r) ≡ 120
   unfolding withName
@@ -61,7 +50,7 @@ module _ (name : List ℕ) (n : length name ≡ 20) where
   -- A record to be written has 120 bytes with what is filled.
   pub length-filled : (e : Entry) → Entered e → length (filled name e) ≡ 120
   unfolding filled
-  length-filled e i = length-putAll _ _ (slot-laid startState (i .in-slot)) (length-name (e .slot) _ (length-number (e .slot) (e .bytes) (i .sized) (e .delega)) name n)
+  length-filled e i = length-putAll _ _ (slot-laid startState (i .in-slot)) (length-name (e .slot) _ (length-number (e .slot) (e .delega) (e .bytes) (i .sized)) name n)
 
   -- So have they all.
   pub sized-filled : (es : List Entry) → All Entered es → Sized (filledAll name es)

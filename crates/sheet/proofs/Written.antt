@@ -29,7 +29,8 @@ use Rattle.sheet.specs.declared.Spot.{Spot}
 use Rattle.sheet.specs.Slots.{typeText, subtypeText, slotFault, madeBalance}
 use Rattle.sheet.specs.Walk.{countAt, orMisfit, Enters}
 use Rattle.sheet.specs.Sheet.{Entry, entry}
-use Rattle.sheet.specs.Filled.{isTail, withNumber, withName, filled}
+use Rattle.rebalance.specs.Numbering.{withNumber}
+use Rattle.sheet.specs.Filled.{isTail, withName, filled}
 use lib.ListN.{length, take, drop, replicate, length-append, getD}
 use lib.Seq.{take-at, length-take-le}
 use Rattle.text.specs.Numbers.{digitsOf}

@@ -2,20 +2,15 @@
 use Prim.Native.Nat.{ℕ}
 use mathlib.Core.Bool.{Bool, true, false, cond}
 use mathlib.Core.List.{List, map}
-use Rattle.text.specs.Numbers.{digitsOf}
 use Rattle.text.specs.Placing.{putAt}
 use Rattle.layout.specs.declared.Kind.{Kind}
 use Rattle.layout.specs.declared.Kind.the-variants.{Head, Taxpayer, Domicile, Line, Balance, Payment, Receipt, Addressee, Tail, Unknown}
 use Rattle.layout.specs.Sections.{at}
-use Rattle.layout.specs.Kinds.{numbered}
 use Rattle.rules.specs.State.{startState}
 use Rattle.rules.specs.Stored.{storedOf}
 use Rattle.rebalance.specs.Rebalance.{putAll}
+use Rattle.rebalance.specs.Numbering.{withNumber}
 use Rattle.sheet.specs.Sheet.{Entry}
-
--- "fills delega numbers": at 4-10 of every record of a delega
-unfoldable pub withNumber : Kind → ℕ → List ℕ → List ℕ
-withNumber k d r = cond (numbered k) (putAt (at 4) (digitsOf 7 d) r) r
 
 -- the slot of EF
 abbrev pub isTail : Kind → Bool
@@ -34,7 +29,7 @@ isTail Unknown = false
 unfoldable pub withName : Kind → List ℕ → List ℕ → List ℕ
 withName k name r = cond (isTail k) (putAt (at 20) name r) r
 
--- "final balances and the tail's .. counts and sum", and a made record's totals, sign and balance: what they hold before any line, until the flow is rebalanced.
+-- "fills delega numbers, final balances and the tail's name, counts and sum", and a made record's totals, sign and balance: balances, counts and sums are what they are before any line, until the flow is rebalanced.
 -- "every filled field taken as right": what stood there is not looked at
 unfoldable pub filled : List ℕ → Entry → List ℕ
 filled name e = putAll (storedOf startState (e .slot)) (withName (e .slot) name (withNumber (e .slot) (e .delega) (e .bytes)))

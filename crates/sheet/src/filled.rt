@@ -3,21 +3,10 @@ ghost use mathlib.Core.Path.{_≡_};
 ghost use Prim.Native.Nat.{_<_};
 ghost use lib.ListN.{length};
 ghost use Rattle.sheet.specs.Sheet.{entry};
-ghost use Rattle.sheet.specs.Filled.{withNumber, withName, filled};
+ghost use Rattle.sheet.specs.Filled.{withName, filled};
 use layout::Flow;
 use layout::Kind;
 use layout::Part;
-use layout::Position;
-
-// The number of its delega, in a record of a delega.
-fn put_delega(rec: &mut [u8], slot: Kind, d: u64)
-    requires { ⌜ (length (now rec) ≡ 120) × (d < 10_000_000) ⌝ }
-    ensures { λ _. ⌜ now (rec .exit) ≡ withNumber slot d (now (rec .entry)) ⌝ }
-{
-    if layout::is_numbered(slot) {
-        text::put_number(&mut *rec, Position::DELEGA_NUMBER - 1, 7, d);
-    }
-}
 
 // The head's name, in the tail.
 fn put_name(rec: &mut [u8], slot: Kind, name: &[u8])
@@ -36,7 +25,7 @@ pub fn filled_record(keyed: &[u8], name: &[u8], slot: Kind, d: u64) -> [u8; Flow
 {
     let mut rec = [0u8; Flow::RECORD];
     text::put_part(&mut rec, 0, keyed);
-    put_delega(&mut rec, slot, d);
+    rebalance::put_delega(&mut rec, slot, d);
     put_name(&mut rec, slot, name);
     rebalance::fill(&mut rec, rules::start(), slot);
     rec

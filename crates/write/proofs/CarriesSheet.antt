@@ -25,10 +25,12 @@ use Rattle.rebalance.proofs.Emit.{emit-kind, emit-outside}
 use Rattle.rebalance.proofs.Rebalanced.{length-rebalanced}
 use Rattle.sheet.specs.Slots.{typeText, subtypeText, madeBalance}
 use Rattle.sheet.specs.Sheet.{Entry, entry}
-use Rattle.sheet.specs.Filled.{withNumber, isTail, withName, filled, filledAll}
+use Rattle.rebalance.specs.Numbering.{withNumber}
+use Rattle.rebalance.proofs.Numbered.{length-number, number-byte}
+use Rattle.sheet.specs.Filled.{isTail, withName, filled, filledAll}
 use Rattle.sheet.specs.Contents as In
 use Rattle.sheet.specs.Contents.{Slot, All, Entered}
-use Rattle.sheet.proofs.FilledRecords.{slot-laid, length-number, length-name, length-filled}
+use Rattle.sheet.proofs.FilledRecords.{slot-laid, length-name, length-filled}
 use Rattle.write.specs.declared.Writing.the-variants.{Written}
 use Rattle.write.specs.Writing.{nameIn, writingOf, flowOf}
 use Rattle.write.specs.WhenRefused.{entriesIn, NoEntryFault, MayBeWritten}
@@ -65,15 +67,6 @@ spared In.tail i h =
 
 -- A record of 120 bytes, and a byte of it that is not filled.
 module _ (k : Kind) (r : List ℕ) (l : length r ≡ 120) (i : ℕ) where
-  -- The delega number leaves it.
-  number-byte : (d : ℕ) → (numbered k ≡ true → Beside i delegaNumber) → getD (withNumber k d r) i 0 ≡ getD r i 0
-  unfolding withNumber
-  number-byte d o = go (numbered k) o
-    where
-      go : (t : Bool) → (t ≡ true → Beside i delegaNumber) → getD (cond t (putAt 3 (digitsOf 7 d) r) r) i 0 ≡ getD r i 0
-      go true o = put-off delegaNumber (digitsOf 7 d) r (rw (length-digits 7 d)) (omega arith) i (o refl)
-      go false o = refl
-
   -- The name leaves it.
   name-byte : (name : List ℕ) → length name ≡ 20 → (isTail k ≡ true → Beside i supportName) → getD (withName k name r) i 0 ≡ getD r i 0
   unfolding withName
@@ -91,12 +84,12 @@ module _ (name : List ℕ) (n : length name ≡ 20) where
   filled-byte e a i h =
       let s = spared (a .in-slot) i h in
       let xs = storedOf startState (e .slot) in
-      let p = length-number (e .slot) (e .bytes) (a .sized) (e .delega) in
+      let p = length-number (e .slot) (e .delega) (e .bytes) (a .sized) in
       let r = withName (e .slot) name (withNumber (e .slot) (e .delega) (e .bytes)) in
       let q = length-name (e .slot) (withNumber (e .slot) (e .delega) (e .bytes)) p name n in
       byte-of (putAll xs r) i
       ∙ (ap (λ (b : List ℕ). getD b 0 0) (putAll-clear xs r (slot-laid startState (a .in-slot)) q i 1 (s .stored startState))
-      ∙ (sym (byte-of r i) ∙ (name-byte (e .slot) (withNumber (e .slot) (e .delega) (e .bytes)) p i name n (s .name) ∙ number-byte (e .slot) (e .bytes) (a .sized) i (e .delega) (s .number))))
+      ∙ (sym (byte-of r i) ∙ (name-byte (e .slot) (withNumber (e .slot) (e .delega) (e .bytes)) p i name n (s .name) ∙ number-byte (e .slot) (e .delega) (e .bytes) (a .sized) i (s .number))))
 
   -- Rebalancing leaves every other byte besides.
   records-byte : (st : State) (es : List Entry) → All Entered es → NoEntryFault name st es → (k i : ℕ) → inColumns i (filledColumns (entryAt es k .slot)) ≡ false → getD (getD (rebalanced st (filledAll name es)) k []) i 0 ≡ getD (entryAt es k .bytes) i 0

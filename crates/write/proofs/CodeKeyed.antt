@@ -22,7 +22,8 @@ use Rattle.judge.proofs.OwnNumbers.{twenty-six-is-taxpayer, behind-eight}
 use Rattle.judge.proofs.CodeExists.{code-twenty-six}
 use Rattle.rebalance.specs.Rebalance.{putAll, keptFields, keptFault}
 use Rattle.sheet.specs.Sheet.{Entry}
-use Rattle.sheet.specs.Filled.{withNumber, withName, filled}
+use Rattle.rebalance.specs.Numbering.{withNumber}
+use Rattle.sheet.specs.Filled.{withName, filled}
 use Rattle.sheet.specs.Contents.{Entered}
 use Rattle.write.specs.Writing.{refusalWritten, nameIn, entryFault, writingOf}
 use Rattle.write.specs.WhenRefused.{entriesIn}

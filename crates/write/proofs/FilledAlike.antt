@@ -28,7 +28,8 @@ use Rattle.judge.proofs.PlainSums.{cond-true}
 use Rattle.rebalance.specs.Rebalance.{putAll, emit, keptFields}
 use Rattle.rebalance.proofs.Written.{digits-pass}
 use Rattle.sheet.specs.Sheet.{entry}
-use Rattle.sheet.specs.Filled.{withNumber, isTail, withName, filled}
+use Rattle.rebalance.specs.Numbering.{withNumber}
+use Rattle.sheet.specs.Filled.{isTail, withName, filled}
 use Rattle.sheet.specs.Contents as In
 use Rattle.sheet.specs.Contents.{Slot}
 use Rattle.amounts.proofs.Spelling.{same-bytes}

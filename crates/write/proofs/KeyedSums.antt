@@ -27,7 +27,8 @@ use Rattle.judge.proofs.PlainSums.{accepted-section-sums, accepted-total-lines}
 use Rattle.rebalance.specs.Rebalance.{putAll, emit, rebalanced}
 use Rattle.rebalance.proofs.Emit.{emit-kind, emit-plain}
 use Rattle.sheet.specs.Sheet.{Entry, entry}
-use Rattle.sheet.specs.Filled.{withNumber, withName, filled, filledAll}
+use Rattle.rebalance.specs.Numbering.{withNumber}
+use Rattle.sheet.specs.Filled.{withName, filled, filledAll}
 use Rattle.sheet.specs.Contents as In
 use Rattle.sheet.specs.Contents.{Slot, All, Entered, countIn}
 use Rattle.sheet.proofs.FilledRecords.{length-filled}

@@ -28,11 +28,13 @@ use Rattle.rebalance.proofs.Written.{putAll-clear}
 use Rattle.rebalance.proofs.Columns.{columns}
 use Rattle.sheet.specs.Slots.{slotFault}
 use Rattle.sheet.specs.Sheet.{Entry, entry}
-use Rattle.sheet.specs.Filled.{withNumber, isTail, withName, filled, filledAll}
+use Rattle.rebalance.specs.Numbering.{withNumber}
+use Rattle.sheet.specs.Filled.{isTail, withName, filled, filledAll}
 use Rattle.sheet.specs.Contents.{tail, All, Entered, Numbering}
 use Rattle.sheet.proofs.SlotPassed.{slot-kind}
 use Rattle.amounts.proofs.Spelling.{same-itself}
-use Rattle.sheet.proofs.FilledRecords.{slot-storing, slot-laid, length-number, length-name}
+use Rattle.rebalance.proofs.Numbered.{number-right, length-number, number-here}
+use Rattle.sheet.proofs.FilledRecords.{slot-storing, slot-laid, length-name}
 use Rattle.write.specs.declared.Writing.the-variants.{Refused}
 use Rattle.write.specs.Writing.{nameIn, entryFault, writingOf}
 use Rattle.write.specs.WhenRefused.{entriesIn, NoEntryFault, FirstEntryFault, recordNumbers, sheetNumbers, Tried, WhyRefused, NotASheet, ShortRoom, ManyRecords, FaultyRecord, NoFit}
@@ -41,25 +43,6 @@ use Rattle.write.proofs.FaultNumbers.{entry-in, entry-number-right}
 use Rattle.write.proofs.Refusals.{refused-why}
 use Rattle.write.proofs.Mended.{passes-kind}
 use Rattle.write.proofs.WrittenFlow.{entries-in, name-length}
-
--- Where the number is the one expected, the check on it passes.
-number-right : (d : ℕ) (k : Kind) (n : ℕ) → (numbered k ≡ true → n ≡ nextDeleghe d k) → numberFault d k n ≡ Pass
-unfolding numberFault carried numbered
-number-right d Head n h = refl
-number-right d Taxpayer n h = rw (eq-eqb n (d + 1) (h refl))
-number-right d Domicile n h = rw (eq-eqb n d (h refl))
-number-right d (Line s) n h = rw (eq-eqb n d (h refl))
-number-right d (Balance s) n h = rw (eq-eqb n d (h refl))
-number-right d Payment n h = rw (eq-eqb n d (h refl))
-number-right d Receipt n h = rw (eq-eqb n d (h refl))
-number-right d Addressee n h = rw (eq-eqb n d (h refl))
-number-right d Tail n h = refl
-number-right d Unknown n h = refl
-
--- A record of 120 bytes in the slot of a delega.
-number-put : (k : Kind) (d : ℕ) (r : List ℕ) → length r ≡ 120 → numbered k ≡ true → take 7 (drop 3 (withNumber k d r)) ≡ digitsOf 7 d
-unfolding withNumber
-number-put k d r l e = let n = length-digits 7 d in rw e (put-here 3 (digitsOf 7 d) r (omega arith) 7 (sym n))
 
 -- The name leaves the delega number.
 name-apart : (k : Kind) (name r : List ℕ) → length name ≡ 20 → length r ≡ 120 → take 7 (drop 3 (withName k name r)) ≡ take 7 (drop 3 r)
@@ -78,9 +61,9 @@ module _ (name : List ℕ) (n : length name ≡ 20) where
   number-digits-filled e a h =
       let xs = storedOf startState (e .slot) in
       let q = withNumber (e .slot) (e .delega) (e .bytes) in
-      let p = length-number (e .slot) (e .bytes) (a .sized) (e .delega) in
+      let p = length-number (e .slot) (e .delega) (e .bytes) (a .sized) in
       let c = putAll-clear xs (withName (e .slot) name q) (slot-laid startState (a .in-slot)) (length-name (e .slot) q p name n) 3 7 (columns (slot-storing startState (a .in-slot)) .delega-number) in
-      c ∙ (name-apart (e .slot) name q n p ∙ number-put (e .slot) (e .delega) (e .bytes) (a .sized) h)
+      c ∙ (name-apart (e .slot) name q n p ∙ number-here (e .slot) (e .delega) (e .bytes) (a .sized) h)
 
   -- It has the number, where this has at most seven digits.
   number-filled : (e : Entry) → Entered e → numbered (e .slot) ≡ true → e .delega < 10000000 → valueOf (filled name e) delegaNumber ≡ e .delega

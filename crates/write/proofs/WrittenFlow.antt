@@ -18,7 +18,8 @@ use Rattle.rebalance.proofs.Rebalanced.{length-rebalanced, sized-rebalanced}
 use Rattle.rebalance.proofs.Flat.{length-flat, records-flat, name-in-front}
 use Rattle.rebalance.proofs.Judged.{judged-rebalanced}
 use Rattle.sheet.specs.Sheet.{Entry, entry, Read, sheetOf}
-use Rattle.sheet.specs.Filled.{withNumber, withName, filled, filledAll}
+use Rattle.rebalance.specs.Numbering.{withNumber}
+use Rattle.sheet.specs.Filled.{withName, filled, filledAll}
 use Rattle.sheet.specs.Contents.{entriesOf, IsSheet}
 use Rattle.sheet.proofs.FilledRecords.{sized-filled}
 use Rattle.sheet.proofs.ReadsContents.{contents-read}

@@ -1,10 +1,10 @@
--- `sheet::filled::put_delega` meets its contract.
+-- `rebalance::numbering::put_delega` meets its contract.
 use native.Mathlib.Omega.{arith}
-use Rattle.sheet.specs.Filled.{withNumber}
+use Rattle.rebalance.specs.Numbering.{withNumber}
 use Rattle.text.proofs.Fits.{number-put}
 use borrow.Author.Needs.{needs}
-use Rattle.sheet.proofs.filled.put_delega.Statement.{statement}
-use Rattle.sheet.proofs.filled.put_delega.Tie as tie
+use Rattle.rebalance.proofs.numbering.put_delega.Statement.{statement}
+use Rattle.rebalance.proofs.numbering.put_delega.Tie as tie
 
 is-numbered-requires : tie.Need-is-numbered-requires
 is-numbered-requires c κs = search needs
