@@ -1,4 +1,4 @@
--- What is filled in a record does not depend on what stood there; a record that passes its checks holds the number and the name that are filled.
+-- What is filled in a record does not depend on what stood there; a record that passes its checks holds the name that is filled.
 use Prim.Native.Nat.{ℕ}
 use mathlib.Core.Path.{_≡_, refl, sym, ap, _∙_}
 use mathlib.Core.Bool.{Bool, true, false, cond, false≢true}
@@ -6,27 +6,23 @@ use mathlib.Core.List.{List, [], _∷_}
 use native.Mathlib.Omega.{arith}
 use lib.Dec.{lit≤}
 use lib.ListN.{length, take, drop}
-use Rattle.text.specs.Numbers.{digitsOf, numberOf}
+use Rattle.text.specs.Numbers.{digitsOf}
 use Rattle.text.specs.Placing.{putAt}
-use Rattle.text.proofs.Numerals.{length-digits, digits-of-number}
-use Rattle.text.proofs.Bytes.{part-length}
+use Rattle.text.proofs.Numerals.{length-digits}
 use Rattle.text.proofs.Puts.{put-same}
 use Rattle.layout.specs.declared.Field.{Field}
 use Rattle.layout.specs.declared.Kind.{Kind}
 use Rattle.layout.specs.Kinds.{kindIn, numbered}
-use Rattle.layout.specs.Fields.{delegaNumber, finalBalance, tailDeleghe, tailSum, tailRecords, supportName, bytesOf, valueOf}
-use Rattle.amounts.specs.declared.Outcome.{Outcome}
+use Rattle.layout.specs.Fields.{delegaNumber, finalBalance, tailDeleghe, tailSum, tailRecords, supportName, bytesOf}
 use Rattle.amounts.specs.declared.Outcome.the-variants.{Pass}
 use Rattle.amounts.specs.Names.{sameBytes}
 use Rattle.rules.specs.declared.State.{State}
 use Rattle.rules.specs.State.{startState}
 use Rattle.rules.specs.Stored.{storedOf}
-use Rattle.rules.specs.Checks.{orBad, badFields, carried, numberFault, tailName, ownFault}
-use Rattle.rules.specs.Step.{nextDeleghe}
-use Rattle.judge.proofs.Accepted.{carried-number}
+use Rattle.rules.specs.Checks.{tailName, ownFault}
 use Rattle.judge.proofs.PlainSums.{cond-true}
-use Rattle.rebalance.specs.Rebalance.{putAll, emit, keptFields}
-use Rattle.rebalance.proofs.Written.{digits-pass}
+use Rattle.rebalance.specs.Rebalance.{putAll, emit}
+use Rattle.rebalance.proofs.Numbered.{number-same}
 use Rattle.sheet.specs.Sheet.{entry}
 use Rattle.rebalance.specs.Numbering.{withNumber}
 use Rattle.sheet.specs.Filled.{isTail, withName, filled}
@@ -65,14 +61,6 @@ module _ (name : List ℕ) (n : length name ≡ 20) (d : ℕ) where
 
 -- A record that holds its number and its name is filled with what is stored before any line.
 module _ (name : List ℕ) (n : length name ≡ 20) (d : ℕ) (k : Kind) (r : List ℕ) (l : length r ≡ 120) where
-  has-number : (numbered k ≡ true → take 7 (drop 3 r) ≡ digitsOf 7 d) → withNumber k d r ≡ r
-  unfolding withNumber
-  has-number h = go (numbered k) h
-    where
-      go : (t : Bool) → (t ≡ true → take 7 (drop 3 r) ≡ digitsOf 7 d) → cond t (putAt 3 (digitsOf 7 d) r) r ≡ r
-      go true g = let m = length-digits 7 d in put-same 3 (digitsOf 7 d) r (omega arith) (rw m (g refl))
-      go false g = refl
-
   has-name : (isTail k ≡ true → take 20 (drop 19 r) ≡ name) → withName k name r ≡ r
   unfolding withName
   has-name h = go (isTail k) h
@@ -83,25 +71,7 @@ module _ (name : List ℕ) (n : length name ≡ 20) (d : ℕ) (k : Kind) (r : Li
 
   pub held-filled : kindIn r ≡ k → (numbered k ≡ true → take 7 (drop 3 r) ≡ digitsOf 7 d) → (isTail k ≡ true → take 20 (drop 19 r) ≡ name) → filled name (entry k d r) ≡ emit startState r
   unfolding filled emit
-  held-filled e h g = ap (λ (x : List ℕ). putAll (storedOf startState k) (withName k name x)) (has-number h) ∙ (ap (putAll (storedOf startState k)) (has-name g) ∙ ap (λ (j : Kind). putAll (storedOf startState j) r) (sym e))
-
--- A record that passes the checks on its digits and its number holds the number that is expected.
-pub number-held : {k : Kind} → Slot k → (d : ℕ) (r : List ℕ) → length r ≡ 120 → badFields (keptFields k) r ≡ Pass → numberFault d k (valueOf r delegaNumber) ≡ Pass → numbered k ≡ true → take 7 (drop 3 r) ≡ digitsOf 7 (nextDeleghe d k)
-unfolding badFields numberFault numbered
-number-held {k} s d r l = go s
-  where
-    digits : (o : Outcome) (m : ℕ) → orBad (numberOf (bytesOf r delegaNumber)) delegaNumber o ≡ Pass → carried m (valueOf r delegaNumber) ≡ Pass → take 7 (drop 3 r) ≡ digitsOf 7 m
-    digits o m p q =
-        sym (digits-of-number 7 (valueOf r delegaNumber) (bytesOf r delegaNumber) (part-length 7 3 r (omega arith)) (digits-pass (numberOf (bytesOf r delegaNumber)) delegaNumber o p .0)) ∙ ap (digitsOf 7) (carried-number m (valueOf r delegaNumber) q)
-
-    go : {j : Kind} → Slot j → badFields (keptFields j) r ≡ Pass → numberFault d j (valueOf r delegaNumber) ≡ Pass → numbered j ≡ true → take 7 (drop 3 r) ≡ digitsOf 7 (nextDeleghe d j)
-    go In.head p q e = absurd (false≢true e)
-    go In.taxpayer p q e = digits _ _ p q
-    go In.domicile p q e = digits _ _ p q
-    go (In.line x h) p q e = digits _ _ p q
-    go (In.balance x h) p q e = digits _ _ p q
-    go In.payment p q e = digits _ _ p q
-    go In.tail p q e = absurd (false≢true e)
+  held-filled e h g = ap (λ (x : List ℕ). putAll (storedOf startState k) (withName k name x)) (number-same k d r l h) ∙ (ap (putAll (storedOf startState k)) (has-name g) ∙ ap (λ (j : Kind). putAll (storedOf startState j) r) (sym e))
 
 -- A tail that passes the check on its name holds the head's.
 pub name-held : {k : Kind} → Slot k → (name : List ℕ) (st : State) (r : List ℕ) → ownFault name st k r ≡ Pass → isTail k ≡ true → take 20 (drop 19 r) ≡ name

@@ -35,7 +35,8 @@ use Rattle.write.specs.Effect.{filledColumns, entryAt, Carries, Demanded
 use Rattle.write.proofs.Refusals.{written-exactly}
 use Rattle.write.proofs.WrittenFlow.{entries-in, name-length, length-written, written-length, written-accepted}
 use Rattle.write.proofs.CarriesSheet.{written-carries}
-use Rattle.write.proofs.FilledAlike.{filled-alike, held-filled, number-held, name-held}
+use Rattle.rebalance.proofs.Numbered.{number-held}
+use Rattle.write.proofs.FilledAlike.{filled-alike, held-filled, name-held}
 use Rattle.write.proofs.OtherState.{next-other, kept-other, emit-over}
 
 -- A record that passes every check after a state, and one to be written that it carries.
@@ -49,7 +50,7 @@ module _ (name : List ℕ) (n : length name ≡ 20) (st : State) (e : Entry) (a 
   carried-filled =
       filled-alike name n (e .delega) (a .in-slot) (record { one = a .sized; other = l; same = λ i h. sym (same i h) })
       ∙ held-filled name n (e .delega) (e .slot) r l k
-      (λ h. number-held (a .in-slot) (st .deleghe) r l (rw (← k) (each .digits)) (rw (← k) (each .number)) h ∙ ap (digitsOf 7) (sym (right h)))
+      (λ h. number-held (e .slot) (st .deleghe) r l (rw (← k) (each .digits)) (rw (← k) (each .number)) h ∙ ap (digitsOf 7) (sym (right h)))
       (name-held (a .in-slot) name st r (rw (← k) (each .own)))
 
   -- It has no fault.
