@@ -1,3 +1,2 @@
 pub mod OneAnswer
 pub mod Rooms
-pub mod Samples

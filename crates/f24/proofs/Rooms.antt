@@ -9,7 +9,8 @@ use Rattle.state.specs.Numbers.{overlay}
 use Rattle.judge.specs.declared.Verdict.{Verdict}
 use Rattle.judge.specs.declared.Verdict.the-variants.{Accepted}
 use Rattle.judge.specs.Refusal.{refusal, noRefusal, refusalOf}
-use Rattle.f24.specs.Linked.{codeOr, roomOr, refusalNumbers, answerNumbers}
+use Rattle.answers.specs.Numbers.{refusalNumbers}
+use Rattle.f24.specs.Linked.{codeOr, roomOr, answerNumbers}
 
 -- Nothing laid over a room leaves it as it came.
 pub overlay-none : (room : List ℕ) → overlay [] room ≡ room

@@ -4,17 +4,14 @@ use mathlib.Core.Bool.{cond}
 use mathlib.Core.List.{List, [], _∷_}
 use lib.Dec.{eqb, ltb}
 use lib.ListN.{length}
-use Rattle.state.specs.Numbers.{overlay, sumsNumbers}
-use Rattle.judge.specs.declared.Summary.{Summary}
+use Rattle.state.specs.Numbers.{overlay}
 use Rattle.judge.specs.Refusal.{Refusal, refusalOf}
 use Rattle.judge.specs.Flow.{judged}
-use Rattle.portion.specs.declared.Course.{Course}
-use Rattle.portion.specs.declared.Course.the-variants as Portions
 use Rattle.portion.specs.declared.Portion.{Portion}
 use Rattle.portion.specs.Portion.{portioned}
-use Rattle.handed.specs.Room.{progressNumbers, progressOf}
-use Rattle.delega.specs.declared.DelegaAnswer.{DelegaAnswer}
+use Rattle.handed.specs.Room.{progressOf}
 use Rattle.delega.specs.OneDelega.{delegaOf}
+use Rattle.answers.specs.Numbers.{summaryNumbers, delegaNumbers, refusalNumbers, courseCode, portionNumbers, handedBack}
 use Rattle.find.specs.declared.Found.{Found}
 use Rattle.find.specs.declared.Found.the-variants as Line
 use Rattle.find.specs.Line.{refusalFound, foundIn}
@@ -33,18 +30,6 @@ codeOr n room code = cond (ltb (length room) n) 100 code
 -- Such a room stays as it came, and any other is written to.
 unfoldable pub roomOr : ℕ → List ℕ → List ℕ → List ℕ
 roomOr n room xs = cond (ltb (length room) n) room (overlay xs room)
-
--- A summary is written as deleghe, records, total and lines, and then the sums of the sections.
-unfoldable pub summaryNumbers : Summary → List ℕ
-summaryNumbers s = s .deleghe ∷ s .records ∷ s .total ∷ s .lines ∷ sumsNumbers (s .sums)
-
--- A delega is written as its final balance, its lines, its set of sections and the size of it, and then the sums of its sections.
-unfoldable pub delegaNumbers : DelegaAnswer → List ℕ
-delegaNumbers a = a .balance ∷ a .lines ∷ a .set ∷ a .size ∷ sumsNumbers (a .sums)
-
--- A refusal is written as the record and the position.
-abbrev pub refusalNumbers : ℕ → ℕ → List ℕ
-refusalNumbers r p = r ∷ p ∷ []
 
 -- A refusal has a number and writes its record and its position; an answer that is none has the number 0 and writes its own numbers.
 unfoldable pub answerNumbers : Refusal → List ℕ → List ℕ
@@ -128,35 +113,6 @@ rebalanceFlow f list answer = cond (ltb (length answer) 2) f (mendedFlow f list)
 -- It leaves the list as it came where the answer is too short, and else lists the fields that changed.
 unfoldable pub rebalanceList : List ℕ → List ℕ → List ℕ → List ℕ
 rebalanceList f list answer = cond (ltb (length answer) 2) list (mendedList f list)
-
--- A judgement that has not ended returns 101, and a foreign state 102.
-abbrev pub courseCode : Course → ℕ
-courseCode Portions.Going = 101
-courseCode Portions.Accepted = 0
-courseCode (Portions.Refused n r p) = n
-courseCode Portions.Foreign = 102
-
--- A portion writes the number of records examined so far, and behind it the summary, or the record and the position of the refusal.
-abbrev pub numbersBy : Course → Portion → List ℕ
-numbersBy Portions.Going a = a .examined ∷ []
-numbersBy Portions.Accepted a = a .examined ∷ summaryNumbers (a .summary)
-numbersBy (Portions.Refused n r p) a = a .examined ∷ r ∷ p ∷ []
-numbersBy Portions.Foreign a = a .examined ∷ []
-
--- So by how the judgement stands.
-abbrev pub portionNumbers : Portion → List ℕ
-portionNumbers a = numbersBy (a .answer) a
-
--- The state is replaced by the one that is handed back; a foreign one stays as it came.
-abbrev pub stateBy : Course → Portion → List ℕ → List ℕ
-stateBy Portions.Going a state = overlay (progressNumbers (a .next)) state
-stateBy Portions.Accepted a state = overlay (progressNumbers (a .next)) state
-stateBy (Portions.Refused n r p) a state = overlay (progressNumbers (a .next)) state
-stateBy Portions.Foreign a state = state
-
--- So by how the judgement stands.
-abbrev pub handedBack : Portion → List ℕ → List ℕ
-handedBack a state = stateBy (a .answer) a state
 
 -- What a portion of at most p records answers, from the state in a room.
 abbrev pub portionOf : List ℕ → ℕ → List ℕ → Portion

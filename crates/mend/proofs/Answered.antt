@@ -19,9 +19,9 @@ use Rattle.rebalance.specs.Rebalance.{allFit}
 use Rattle.rebalance.proofs.KeptNumbers.{kept-in, last-in}
 use Rattle.lenient.specs.declared.Lenient.{Lenient}
 use Rattle.lenient.specs.declared.Lenient.the-variants as Kept
+use Rattle.changes.specs.Changes.{changesOf}
 use Rattle.mend.specs.declared.Mending.{Mending}
 use Rattle.mend.specs.declared.Mending.the-variants.{Refused}
-use Rattle.mend.specs.Changes.{changesOf}
 use Rattle.mend.specs.Mending.{refusalMended, remainingFrom, remaining, listedIn, weighed, unless, mendingOf}
 use Rattle.mend.specs.WhenRefused.{FirstRemaining, Mends, remainingNumbers, mendingNumbers, Answers, TooLong, NotWhole, FaultAt, NoTail, NoFit, ShortList, IsRebalanced}
 use Rattle.mend.proofs.Answering.{remaining-long, remaining-none, remaining-ragged, remaining-records}

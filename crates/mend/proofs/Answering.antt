@@ -9,9 +9,9 @@ use Rattle.judge.specs.Flow.{recordsOf, headNameOf}
 use Rattle.rebalance.specs.Rebalance.{refreshed}
 use Rattle.lenient.specs.declared.Lenient.the-variants as Kept
 use Rattle.lenient.specs.Lenient.{lenientFrom}
+use Rattle.changes.specs.Changes.{changesOf}
 use Rattle.mend.specs.declared.Mending.{Mending}
 use Rattle.mend.specs.declared.Mending.the-variants.{Refused}
-use Rattle.mend.specs.Changes.{changesOf}
 use Rattle.mend.specs.Mending.{remainingFrom, remaining, weighed, flowBy, listBy, mendingOf, mendedFlow, mendedList}
 use Rattle.mend.proofs.Remaining.{remaining-lenient}
 

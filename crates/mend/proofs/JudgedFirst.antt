@@ -34,13 +34,14 @@ use Rattle.rebalance.proofs.Weighed.{fits-append}
 use Rattle.rebalance.proofs.Rebalanced.{length-rebalanced, sized-rebalanced, rebalanced-append}
 use Rattle.rebalance.proofs.Flat.{records-flat}
 use Rattle.rebalance.proofs.Judged.{sized-records}
+use Rattle.changes.specs.Changes.{writtenFields, place, changesOf}
+use Rattle.changes.specs.Listed.{recordBehind, OneOf, first, later}
+use Rattle.changes.proofs.Listed.{changed-exactly}
 use Rattle.mend.specs.declared.Mending.the-variants.{Mended}
-use Rattle.mend.specs.Changes.{writtenFields, place, changesOf}
 use Rattle.mend.specs.Mending.{mendingOf}
 use Rattle.mend.specs.WhenRefused.{NoneRemains}
-use Rattle.mend.specs.Effect.{recordBehind, OneOf, first, later, ListedAt}
+use Rattle.mend.specs.Effect.{ListedAt}
 use Rattle.mend.proofs.MendedFlow.{rebalanced-when}
-use Rattle.mend.proofs.Listed.{changed-exactly}
 
 -- A field of a record, in which two records differ, that starts at a position.
 pub record Wrongly (fl : List Field) (r s : List ℕ) (p : ℕ) : Type 0 where

@@ -1,13 +1,9 @@
-pub mod Placed
-pub mod FieldsWritten
-pub mod Listing
 pub mod Replaced
 pub mod Remaining
 pub mod Answering
 pub mod Answered
 pub mod MendedFlow
 pub mod OtherBytes
-pub mod Listed
 pub mod WhatChanges
 pub mod JudgedFirst
 pub mod SevenListed

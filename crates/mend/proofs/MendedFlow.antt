@@ -1,15 +1,11 @@
 -- The flow after rebalancing: it is accepted with the sums of its lines; an accepted flow and its list stay as they came, and so a second rebalancing changes nothing; so does a refusal.
-use Prim.Native.Nat.{ℕ, _+_, _*_, _≤_}
+use Prim.Native.Nat.{ℕ, _*_, _≤_}
 use mathlib.Core.Path.{_≡_, refl, sym, ap, _∙_}
 use mathlib.Core.Bool.{true}
-use mathlib.Core.List.{List, [], _∷_, _++_}
+use mathlib.Core.List.{List, [], _∷_}
 use mathlib.Core.Logic.{_↔_}
 use native.Mathlib.Omega.{arith}
 use lib.ListN.{length}
-use Rattle.layout.specs.declared.Field.{Field}
-use Rattle.layout.specs.Kinds.{kindIn}
-use Rattle.layout.specs.Fields.{bytesOf}
-use Rattle.amounts.proofs.Spelling.{same-itself}
 use Rattle.order.specs.Stages.{afterTail}
 use Rattle.rules.specs.declared.State.{State}
 use Rattle.rules.specs.State.{startState}
@@ -25,28 +21,14 @@ use Rattle.rebalance.proofs.Rebalanced.{sized-rebalanced, mendable-fits, fits-r
 use Rattle.rebalance.proofs.Flat.{records-flat}
 use Rattle.rebalance.proofs.Judged.{sized-records, judged-rebalanced, accepted-untouched, accepted-mends}
 use Rattle.lenient.proofs.Mends.{lenient-mends}
+use Rattle.changes.specs.Changes.{Place, changedFrom, changesOf, placeNumbers}
+use Rattle.changes.proofs.Listed.{none-from}
 use Rattle.mend.specs.declared.Mending.{Mending}
 use Rattle.mend.specs.declared.Mending.the-variants.{Mended, Refused}
-use Rattle.mend.specs.Changes.{stays, writtenFields, Place, changedIn, changedFrom, changesOf, placeNumbers}
 use Rattle.mend.specs.Mending.{flowBy, listBy, mendingOf, mendedFlow, mendedList}
 use Rattle.mend.specs.WhenRefused.{NoneRemains, Mends, Answers, TooLong, NotWhole, FaultAt, NoTail, NoFit, ShortList, IsRebalanced}
 use Rattle.mend.proofs.Remaining.{remaining-lenient, all-remain}
 use Rattle.mend.proofs.Answered.{answered-exactly}
-
--- Fields of a record that stays are not listed, and so none of records that stay.
-stays-itself : (f : Field) (r : List ℕ) → stays f r r ≡ true
-unfolding stays
-stays-itself f r = same-itself (bytesOf r f)
-
-none-in : (k : ℕ) (fl : List Field) (r : List ℕ) → changedIn k fl r r ≡ []
-unfolding changedIn
-none-in k [] r = refl
-none-in k (f ∷ fl) r = rw (stays-itself f r) (none-in k fl r)
-
-none-from : (k : ℕ) (rs : List (List ℕ)) → changedFrom k rs rs ≡ []
-unfolding changedFrom
-none-from k [] = refl
-none-from k (r ∷ rs) = ap (λ (ps : List Place). ps ++ changedFrom (k + 1) rs rs) (none-in (k + 1) (writtenFields (kindIn r)) r) ∙ none-from (k + 1) rs
 
 -- In records that rebalancing mends no fault remains, and the last is EF.
 mendable-none : (name : List ℕ) (st : State) (rs : List (List ℕ)) → Mendable name st rs → NoneRemains name st rs × (stateAfter st rs .stage .phase ≡ afterTail)

@@ -26,8 +26,8 @@ use Rattle.rebalance.proofs.Columns.{Columns, storing, columns}
 use Rattle.rebalance.proofs.Alike.{Alike, alike-equal, alike-stored}
 use Rattle.rebalance.proofs.Emit.{kind-put, next-emit}
 use Rattle.rebalance.proofs.Judged.{sized-records, accepted-untouched}
+use Rattle.changes.specs.Changes.{writtenFields}
 use Rattle.mend.specs.declared.Mending.the-variants.{Mended}
-use Rattle.mend.specs.Changes.{writtenFields}
 use Rattle.mend.specs.Mending.{mendingOf, mendedFlow}
 use Rattle.mend.specs.Effect.{mayChange}
 use Rattle.mend.proofs.MendedFlow.{flow-by}

@@ -20,8 +20,8 @@ use Rattle.rebalance.proofs.Columns.{Storing, plain, balance, payment, tail, st
 use Rattle.rebalance.proofs.Emit.{emit-plain, emit-outside}
 use Rattle.rebalance.proofs.Rebalanced.{sized-rebalanced}
 use Rattle.rebalance.proofs.Flat.{flat-byte}
-use Rattle.rebalance.proofs.Judged.{sized-records, flat-records, length-mended}
-use Rattle.mend.specs.Changes.{writtenFields}
+use Rattle.rebalance.proofs.Judged.{sized-records, flat-records}
+use Rattle.changes.specs.Changes.{writtenFields}
 use Rattle.mend.specs.Effect.{mayChange}
 
 -- A byte outside the fields that are written in a record stays.
@@ -41,12 +41,8 @@ records-byte st [] z q c h = refl
 records-byte st (r ∷ rs) z zero c h = record-byte st r (z .0) c h
 records-byte st (r ∷ rs) z (suc q) c h = records-byte (next st r) rs (z .1) q c h
 
--- A flow of whole records keeps its length, and every byte that may not change.
+-- A flow of whole records keeps every byte that may not change.
 module _ (f : List ℕ) (w : Whole f) where
-  pub refreshed-length : length (refreshed f) ≡ length f
-  unfolding refreshed
-  refreshed-length = length-mended f (w .even) startState
-
   pub refreshed-byte : (i : ℕ) → mayChange f i ≡ false → getD (refreshed f) i 0 ≡ getD f i 0
   unfolding refreshed mayChange
   refreshed-byte i h =

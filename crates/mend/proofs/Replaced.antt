@@ -15,12 +15,13 @@ use Rattle.judge.specs.Flow.{recordsOf}
 use Rattle.judge.specs.Plain.{Whole}
 use Rattle.rebalance.specs.Rebalance.{rebalanced, allFit, flat, refreshed}
 use Rattle.rebalance.proofs.Judged.{length-mended}
+use Rattle.changes.specs.Changes.{Place, changedFrom, changesOf}
+use Rattle.changes.specs.Inner.{putPlaces, Beside}
+use Rattle.changes.proofs.Placed.{places-listed}
 use Rattle.mend.specs.declared.Mending.{Mending}
 use Rattle.mend.specs.declared.Mending.the-variants.{Mended, Refused}
-use Rattle.mend.specs.Changes.{Place, changedFrom, changesOf}
 use Rattle.mend.specs.Mending.{listedIn, weighed, flowBy, listBy}
-use Rattle.mend.specs.Inner.{putPlaces, Beside, Copied}
-use Rattle.mend.proofs.Placed.{places-listed}
+use Rattle.mend.specs.Inner.{Copied}
 
 -- The answer for a flow whose values fit, the flow and the list afterwards.
 abbrev pub Replacing : List ℕ → List ℕ → Mending → List ℕ → List ℕ → Type 0

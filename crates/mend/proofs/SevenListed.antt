@@ -30,15 +30,16 @@ use Rattle.rebalance.specs.Rebalance.{emit, refreshed, keptFields}
 use Rattle.rebalance.proofs.Emit.{emit-length, emit-kind, emit-passes}
 use Rattle.rebalance.proofs.Judged.{sized-records}
 use Rattle.lenient.proofs.VeryCharacter.{kept-seven-at}
+use Rattle.changes.specs.Changes.{changesOf}
+use Rattle.changes.specs.Listed.{recordBehind}
+use Rattle.changes.proofs.Listed.{refreshed-length}
 use Rattle.mend.specs.declared.Mending.{Mending}
 use Rattle.mend.specs.declared.Mending.the-variants.{Mended, Refused}
-use Rattle.mend.specs.Changes.{changesOf}
 use Rattle.mend.specs.Mending.{refusalMended, mendingOf}
 use Rattle.mend.specs.WhenRefused.{FirstRemaining, Answers, TooLong, NotWhole, FaultAt, NoTail, NoFit, ShortList, IsRebalanced}
-use Rattle.mend.specs.Effect.{recordBehind, InListed}
+use Rattle.mend.specs.Effect.{InListed}
 use Rattle.mend.proofs.Answered.{answered-exactly}
 use Rattle.mend.proofs.MendedFlow.{flow-by}
-use Rattle.mend.proofs.OtherBytes.{refreshed-length}
 use Rattle.mend.proofs.WhatChanges.{flow-byte, changed-is-listed}
 use Rattle.mend.proofs.JudgedFirst.{sized-at, Met, met}
 

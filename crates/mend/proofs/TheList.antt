@@ -11,14 +11,14 @@ use Rattle.rules.specs.State.{startState}
 use Rattle.state.specs.Numbers.{overlay}
 use Rattle.judge.specs.Flow.{recordsOf, headNameOf}
 use Rattle.judge.proofs.OwnNumbers.{in-fault}
+use Rattle.changes.specs.Changes.{Place, place, changesOf, placeNumbers}
+use Rattle.changes.proofs.Listed.{few-changes}
 use Rattle.mend.specs.declared.Mending.{Mending}
 use Rattle.mend.specs.declared.Mending.the-variants.{Mended, Refused}
-use Rattle.mend.specs.Changes.{Place, place, changesOf, placeNumbers}
 use Rattle.mend.specs.Mending.{refusalMended, mendingOf, mendedList}
 use Rattle.mend.specs.WhenRefused.{FirstRemaining, Answers, TooLong, NotWhole, FaultAt, NoTail, NoFit, ShortList, IsRebalanced}
 use Rattle.mend.proofs.Answered.{remaining-in, answered-exactly}
 use Rattle.mend.proofs.MendedFlow.{rebalanced-when, list-by}
-use Rattle.mend.proofs.Listed.{few-changes}
 
 -- Two numbers for each place.
 length-numbers : (ps : List Place) → length (placeNumbers ps) ≡ 2 * length ps

@@ -18,14 +18,15 @@ use Rattle.judge.proofs.Records.{length-chunks}
 use Rattle.rebalance.specs.Rebalance.{refreshed}
 use Rattle.rebalance.proofs.Flat.{flat-byte}
 use Rattle.rebalance.proofs.Judged.{sized-records, flat-records}
+use Rattle.changes.specs.Changes.{writtenFields, Place, place, changesOf}
+use Rattle.changes.specs.Listed.{recordBehind, Listed, OneOf, first, later, Differs}
+use Rattle.changes.proofs.Listed.{refreshed-length, changed-exactly}
 use Rattle.mend.specs.declared.Mending.{Mending}
 use Rattle.mend.specs.declared.Mending.the-variants.{Mended, Refused}
-use Rattle.mend.specs.Changes.{writtenFields, Place, place, changesOf}
 use Rattle.mend.specs.Mending.{mendingOf, mendedFlow}
-use Rattle.mend.specs.Effect.{recordBehind, mayChange, Listed, OneOf, first, later, Differs, InListed}
+use Rattle.mend.specs.Effect.{mayChange, InListed}
 use Rattle.mend.proofs.MendedFlow.{rebalanced-when, flow-by}
-use Rattle.mend.proofs.OtherBytes.{refreshed-length, refreshed-byte}
-use Rattle.mend.proofs.Listed.{changed-exactly}
+use Rattle.mend.proofs.OtherBytes.{refreshed-byte}
 
 -- An index in columns lies in one of them.
 record Within (c : ℕ) (fl : List Field) : Type 0 where

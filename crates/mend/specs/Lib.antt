@@ -1,4 +1,3 @@
-pub mod Changes
 pub mod Mending
 pub mod Inner
 pub mod WhenRefused

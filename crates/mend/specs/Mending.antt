@@ -14,9 +14,9 @@ use Rattle.rebalance.specs.Rebalance.{refreshed, allFit, keptFault}
 use Rattle.lenient.specs.declared.Lenient.{Lenient}
 use Rattle.lenient.specs.declared.Lenient.the-variants as Kept
 use Rattle.lenient.specs.Lenient.{orRefused, ended}
+use Rattle.changes.specs.Changes.{Place, changesOf, placeNumbers}
 use Rattle.mend.specs.declared.Mending.{Mending}
 use Rattle.mend.specs.declared.Mending.the-variants.{Mended, Refused}
-use Rattle.mend.specs.Changes.{Place, changesOf, placeNumbers}
 
 -- "A refusal is a number, a record counted from 1, and a position": that of an answer; a flow that is rebalanced has none
 abbrev pub refusalMended : Mending → Refusal

@@ -20,9 +20,9 @@ use Rattle.rules.specs.Step.{next}
 use Rattle.judge.specs.Flow.{recordsOf, headNameOf}
 use Rattle.judge.specs.Plain.{Whole, stateAfter}
 use Rattle.rebalance.specs.Rebalance.{emit, allFit, keptFault}
+use Rattle.changes.specs.Changes.{changesOf}
 use Rattle.mend.specs.declared.Mending.{Mending}
 use Rattle.mend.specs.declared.Mending.the-variants.{Mended, Refused}
-use Rattle.mend.specs.Changes.{changesOf}
 
 -- "the first remaining fault of 01's checks" in one record, after a state: 3 of its bytes as they are, those of a rewritten field too; else what the judge says of the record once it is rebalanced, but for what it says
 -- of its stored fields, which are then wrong only where a value does not fit.

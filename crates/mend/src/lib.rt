@@ -1,14 +1,11 @@
 // A flow whose lines are good and whose totals aren't is rebalanced, and the fields that change are listed.
-mod changes;
-
 ghost use mathlib.Core.Path.{_≡_};
 ghost use lib.ListN.{length};
 ghost use Rattle.judge.specs.Plain.{Whole};
 ghost use Rattle.rebalance.specs.Rebalance.{refreshed};
-ghost use Rattle.mend.specs.Changes.{changesOf};
+ghost use Rattle.changes.specs.Changes.{changesOf};
 ghost use Rattle.mend.specs.Mending.{listedIn, weighed, flowBy, listBy, mendingOf, mendedFlow, mendedList};
 ghost use Rattle.mend.specs.Inner.{Copied};
-use changes::list_changes;
 use layout::Flow;
 use lenient::Lenient;
 
@@ -28,11 +25,11 @@ fn replace(flow: &mut [u8], copy: &mut [u8], list: &mut [u64]) -> Mending
 {
     rebalance::rebalance(&mut *copy);
     let mut none = [0u64; 0];
-    let count = list_changes(flow, copy, &mut none);
+    let count = changes::list_changes(flow, copy, &mut none);
     if list.len() / 2 < count {
         return Mending::Refused(27, 0, 0);
     }
-    list_changes(flow, copy, &mut *list);
+    changes::list_changes(flow, copy, &mut *list);
     text::put_part(&mut *flow, 0, copy);
     Mending::Mended(count)
 }

@@ -4,7 +4,8 @@ use mathlib.Core.List.{List}
 use mathlib.Core.Path.{sym, ap, _∙_}
 use Rattle.delega.specs.declared.DelegaAnswer.{DelegaAnswer}
 use Rattle.state.specs.Numbers.{overlay}
-use Rattle.f24.specs.Linked.{delegaNumbers, delegaCode, delegaRoom}
+use Rattle.answers.specs.Numbers.{delegaNumbers}
+use Rattle.f24.specs.Linked.{delegaCode, delegaRoom}
 use Rattle.f24.proofs.Rooms.{short-code, short-room, long-code, accepted-room, refused-room}
 use Rattle.delega.proofs.Asked.{delega-number}
 use borrow.Author.Needs.{needs}

@@ -3,7 +3,8 @@ use borrow.Author.Tests.{lt-ltb, le-ltb}
 use Rattle.portion.specs.declared.Portion.{Portion}
 use Rattle.portion.specs.Portion.{portioned}
 use Rattle.state.specs.Numbers.{overlay}
-use Rattle.f24.specs.Linked.{codeOr, roomOr, courseCode, portionNumbers, handedBack, portionCode, portionState, portionRoom}
+use Rattle.answers.specs.Numbers.{courseCode, portionNumbers, handedBack}
+use Rattle.f24.specs.Linked.{codeOr, roomOr, portionCode, portionState, portionRoom}
 use borrow.Author.Needs.{needs}
 use Rattle.f24.proofs.f24_judge_portion.Statement.{statement}
 use Rattle.f24.proofs.f24_judge_portion.Tie as tie

@@ -1,0 +1,4 @@
+pub mod Placed
+pub mod FieldsWritten
+pub mod Listing
+pub mod Listed
