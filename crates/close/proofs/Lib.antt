@@ -1,0 +1,4 @@
+pub mod Named
+pub mod Counted
+pub mod Spaces
+pub mod Closed

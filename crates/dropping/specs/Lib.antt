@@ -1,0 +1,4 @@
+pub mod Dropping
+pub mod Inner
+pub mod Effect
+pub mod WhenRefused
