@@ -25,7 +25,7 @@ use Rattle.dropping.specs.Inner.{Droppable}
 use Rattle.dropping.specs.WhenRefused.{Names, here, behind, BadNumber, absent, twice, later, GoodList, Unnamed, Answers, NotAccepted, BadList, NoneLeft, AreDropped}
 
 -- A list names a delega where its number is among the list's.
-among-names : (d : ℕ) (ns : List ℕ) → among d ns ≡ true → Names d ns
+pub among-names : (d : ℕ) (ns : List ℕ) → among d ns ≡ true → Names d ns
 unfolding among
 among-names d [] e = absurd (false≢true e)
 among-names d (n ∷ ns) e = go (eqb d n) refl e (among-names d ns)

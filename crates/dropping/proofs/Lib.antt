@@ -14,5 +14,6 @@ pub mod Unchanged
 pub mod Moved
 pub mod Again
 pub mod OneByOne
+pub mod KeptDeleghe
 pub mod BeforeAndAfter
 pub mod OneAnswer

@@ -30,7 +30,7 @@ use Rattle.dropping.proofs.Parts.{sum-same, stays-or-goes, goes-by-dele
 use Rattle.dropping.proofs.Shortened.{shortened-judged, shortened-stayed}
 
 -- A record that is neither a line nor a 50-01 counts nothing; both carry a number.
-line-numbered : (k : Kind) (f : ℕ → ℕ) → numbered k ≡ false → ofLine 0 f k ≡ 0
+pub line-numbered : (k : Kind) (f : ℕ → ℕ) → numbered k ≡ false → ofLine 0 f k ≡ 0
 unfolding numbered
 line-numbered Head f n = refl
 line-numbered Taxpayer f n = refl
@@ -43,7 +43,7 @@ line-numbered Addressee f n = refl
 line-numbered Tail f n = refl
 line-numbered Unknown f n = refl
 
-payment-numbered : (k : Kind) (m : ℕ) → numbered k ≡ false → ofPayment 0 m k ≡ 0
+pub payment-numbered : (k : Kind) (m : ℕ) → numbered k ≡ false → ofPayment 0 m k ≡ 0
 unfolding numbered
 payment-numbered Head m n = refl
 payment-numbered Taxpayer m n = refl
@@ -57,13 +57,13 @@ payment-numbered Tail m n = refl
 payment-numbered Unknown m n = refl
 
 -- What a record adds to a section's sums, and to the final balances.
-abbrev inSection : Side → ℕ → List ℕ → ℕ
+abbrev pub inSection : Side → ℕ → List ℕ → ℕ
 inSection x i r = ofLine 0 (λ s. cond (eqb s i) (valueOf r (columnOf x i)) 0) (kindIn r)
 
-abbrev inFinals : List ℕ → ℕ
+abbrev pub inFinals : List ℕ → ℕ
 inFinals r = ofPayment 0 (valueOf r finalBalance) (kindIn r)
 
-abbrev inLines : List ℕ → ℕ
+abbrev pub inLines : List ℕ → ℕ
 inLines r = ofLine 0 (λ s. 1) (kindIn r)
 
 -- A record that stayed adds the same.
@@ -75,10 +75,10 @@ module _ (numbers r q : List ℕ) (s : Stayed numbers r q) where
       go true a b = a refl
       go false a b = b refl
 
-  stayed-lines : inLines q ≡ inLines r
+  pub stayed-lines : inLines q ≡ inLines r
   stayed-lines = ap (ofLine 0 (λ i. 1)) (stayed-kind s)
 
-  stayed-finals : inFinals q ≡ inFinals r
+  pub stayed-finals : inFinals q ≡ inFinals r
   stayed-finals =
       ap (ofPayment 0 (valueOf q finalBalance)) (stayed-kind s)
       ∙ by-numbered _ _ (λ n. ap (λ (v : ℕ). ofPayment 0 v (kindIn r)) (stayed-value s n finalBalance (lit≤ tt) (lit≤ tt) (lit≤ tt))) (λ n. payment-numbered (kindIn r) _ n ∙ sym (payment-numbered (kindIn r) _ n))
@@ -87,7 +87,7 @@ module _ (numbers r q : List ℕ) (s : Stayed numbers r q) where
   stayed-column Debit i h n = stayed-value s n (columnOf Debit i) (omega (arith, row-rule i h)) (omega arith) (omega (arith, row-rule i h))
   stayed-column Credit i h n = stayed-value s n (columnOf Credit i) (omega (arith, row-rule i h)) (omega arith) (omega (arith, row-rule i h))
 
-  stayed-section : (x : Side) (i : ℕ) → i < 5 → inSection x i q ≡ inSection x i r
+  pub stayed-section : (x : Side) (i : ℕ) → i < 5 → inSection x i q ≡ inSection x i r
   stayed-section x i h =
       ap (ofLine 0 (λ k. cond (eqb k i) (valueOf q (columnOf x i)) 0)) (stayed-kind s)
       ∙ by-numbered _ _ (λ n. ap (λ (v : ℕ). ofLine 0 (λ k. cond (eqb k i) v 0) (kindIn r)) (stayed-column x i h n)) (λ n. line-numbered (kindIn r) _ n ∙ sym (line-numbered (kindIn r) _ n))

@@ -3,7 +3,7 @@ use Prim.Native.Nat.{ℕ, _+_, _-_}
 use mathlib.Core.Path.{_≡_}
 use mathlib.Core.Bool.{true, false, cond}
 use mathlib.Core.List.{List, [], _∷_, map}
-use lib.Dec.{ltb}
+use lib.Dec.{eqb, ltb}
 use lib.ListN.{length, take, getD}
 use Rattle.layout.specs.declared.Field.{Field}
 use Rattle.layout.specs.declared.Kind.{Kind}
@@ -42,6 +42,11 @@ EachStayed numbers [] [] = Unit {0}
 EachStayed numbers [] (q ∷ qs) = ⊥
 EachStayed numbers (r ∷ rs) [] = ⊥
 EachStayed numbers (r ∷ rs) (q ∷ qs) = Stayed numbers r q × EachStayed numbers rs qs
+
+-- The records of delega d, in their order: those that carry its number.
+unfoldable pub recordsWith : ℕ → List (List ℕ) → List (List ℕ)
+recordsWith d [] = []
+recordsWith d (r ∷ rs) = cond (numbered (kindIn r)) (cond (eqb (valueOf r delegaNumber) d) (r ∷ recordsWith d rs) (recordsWith d rs)) (recordsWith d rs)
 
 -- A number of each delega of a list, added up.
 unfoldable pub sumFor : (ℕ → ℕ) → List ℕ → ℕ
