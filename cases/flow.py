@@ -60,11 +60,12 @@ def amount(n):
     return "%015d" % (n % 10 ** 15)
 
 
-def delega(erario=(), inps=(), regioni=(), imu=(), ident=(), after=0, payer=None, order=None):
+def delega(erario=(), inps=(), regioni=(), imu=(), ident=(), after=0, payer=None, order=None, protocol=None):
     """A payment order. A line is (debit, credit) or (debit, credit, {position: text}). `after` is how many of 50-02 and
-    50-03 follow 50-01. `order` names the sections in another order than 01's table, a name as often as wanted."""
+    50-03 follow 50-01. `order` names the sections in another order than 01's table, a name as often as wanted. `protocol` is
+    record 10's 107-113, which no check reads; the delega's number where none is given."""
     lines = {"erario": erario, "inps": inps, "regioni": regioni, "imu": imu, "ident": ident}
-    return {"lines": lines, "order": order or list(SECTIONS), "after": after, "payer": {**PLAIN_PAYER, **(payer or {})}}
+    return {"lines": lines, "order": order or list(SECTIONS), "after": after, "payer": {**PLAIN_PAYER, **(payer or {})}, "protocol": protocol}
 
 
 def full_name(p):
@@ -76,7 +77,7 @@ def delega_records(number, d, head):
     n, p = "%07d" % number, d["payer"]
     out = [
         record("10", {4: n, 11: p["tax_code"], 27: p["name"], 51: p["name2"], 71: p["sex"], 72: p["born_in"],
-                      97: p["born_province"], 99: p["born"], 107: n}),
+                      97: p["born_province"], 99: p["born"], 107: d["protocol"] or n}),
         record("20", {4: n, 11: p["town"], 36: p["province"], 38: p["street"], 73: head["paid"], 81: "0"}),
     ]
     all_debit = all_credit = 0

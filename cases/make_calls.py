@@ -1,4 +1,4 @@
-"""Writes the run cases of the other calls: corrections, the calls that read, flows written from sheets, flows judged by portions, and flows that are rebalanced. Run from anywhere: python3 cases/make_calls.py"""
+"""Writes the run cases of the other calls: corrections, the calls that read, flows written from sheets, flows judged by portions, flows that are rebalanced, and deleghe that are dropped. Run from anywhere: python3 cases/make_calls.py"""
 
 import re
 import sys
@@ -9,6 +9,7 @@ sys.dont_write_bytecode = True
 import corrections      # adds its cases to the list
 import sheets, sheet_faults, samples        # these too
 import correction
+import droppings
 import portions
 import readings
 import rebalancings
@@ -55,3 +56,5 @@ framed("portion_cases", "calls", [(name, numbers, (flow, b" ".join(b"%020d" % n 
        answers("portion_vectors.answers"))
 written("mend_cases", [(name, (length, 0, 0, 0, 0), (before, after), lines, why) for name, length, before, after, lines, why in rebalancings.CALLS],
         answers("rebalance_vectors.answers"))
+framed("drop_cases", "calls", [(name, (len(numbers), 0, 0, 0, 0), (before, after, b"".join(b"%020d " % n for n in numbers)), lines, why)
+                               for name, numbers, before, after, lines, why in droppings.CALLS], answers("drop_vectors.answers"))

@@ -62,6 +62,18 @@ def all_sections():
         name="F24-STUDIO-VERDI-017", head=ACCOUNTANT)
 
 
+def three_deleghe(*withdrawn):
+    """A cooperative's payment with its receipt's address, a roaster's, and a second one of the cooperative; without those that are withdrawn, by their numbers.
+    Final balances 977666, 28912 and 163400. Records: 1 F4, 2 to 11, 12 to 18, 19 to 24, 25 EF."""
+    deleghe = [
+        delega(erario=[erario("1001", "00052025", 482316, 0), erario("6099", "00002024", 0, 120050)],
+               inps=[inps("5800", "DM10", "5801234567", "052025", 615400, 0)], after=2, payer=COOPERATIVE, protocol="0000001"),
+        delega(regioni=[regioni("19", "3802", "00052025", 30412, 0), regioni("19", "3796", "00002024", 0, 1500)], after=1, payer=ROASTERY, protocol="0000002"),
+        delega(imu=[imu("I921", "3918", "2025", 2, 154600, 0), imu("I921", "3914", "2025", 0, 8800, 0)], payer=COOPERATIVE, protocol="0000003"),
+    ]
+    return flow(*[d for number, d in enumerate(deleghe, 1) if number not in withdrawn], name="F24-STUDIO-VERDI-019", head=ACCOUNTANT)
+
+
 def wrong_balance():
     """As regional_tax, but the balance of 40-06 is stored as the sum of debit and credit."""
     return regional_tax().put(6, 46, "000000000012500")
@@ -93,12 +105,14 @@ def bad_count():
 
 
 SAMPLES = {"regioni.f24": regional_tax(), "all-sections.f24": all_sections(), "wrong-balance.f24": wrong_balance(),
-           "wrong-code.f24": wrong_code(), "raised-line.f24": raised_line()}
+           "wrong-code.f24": wrong_code(), "raised-line.f24": raised_line(), "three-deleghe.f24": three_deleghe()}
 
 case("sample-regioni", yes(1, 8, 7500, 2, regioni=(10000, 2500)), SAMPLES["regioni.f24"],
      "01, Examples: the answer printed whole")
 case("sample-all-sections", yes(2, 27, 1991543, 11, erario=(518316, 120050), inps=(656675, 0), regioni=(239302, 1500), imu=(163400, 0),
                                 ident=(535400, 0)), SAMPLES["all-sections.f24"], "01, Order: all five sections")
+case("sample-three-deleghe", yes(3, 25, 1169978, 7, erario=(482316, 120050), inps=(615400, 0), regioni=(30412, 1500), imu=(163400, 0)),
+     SAMPLES["three-deleghe.f24"], "01, Numbers: the first delega is 1, each next one is one more")
 case("sample-wrong-balance", no(13, 6, 46), SAMPLES["wrong-balance.f24"], "01, Sections: the balance is the difference")
 case("sample-wrong-code", no(26, 2, 11), SAMPLES["wrong-code.f24"], "02, ask 2: the values of the first fifteen, summed modulo 26, give the last letter")
 

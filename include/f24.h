@@ -1,4 +1,5 @@
-/* f24.h: CBI F24 flows, judged at once or by portions, corrected, rebalanced and written from working sheets.
+/* f24.h: CBI F24 flows, judged at once or by portions, corrected, rebalanced, shortened by whole deleghe and written
+ * from working sheets.
  *
  * The functions of the static library libf24.a, for C and all that speaks C on x86-64 Linux. docs/LINKING.md says how
  * to build and link it.
@@ -7,26 +8,27 @@
  * from 1. Amounts are whole cents.
  *
  * Every function takes any bytes of any length as a flow or a sheet and any number as a number: it asks nothing but that
- *   - flow, sheet and room point to as many bytes as their lengths say, and answer, state and changed, aligned as
- *     uint64_t is, to answer_len, state_len and changed_len numbers;
+ *   - flow, sheet and room point to as many bytes as their lengths say, and answer, state, changed and numbers, aligned
+ *     as uint64_t is, to answer_len, state_len, changed_len and numbers_len numbers;
  *   - no pointer is null, not even where its length is 0;
  *   - none of them overlaps another, and nobody else writes to them during the call.
  * Nothing is allocated, kept between calls or printed: calls from several threads do not meet, so long as what they
  * are lent does not. What a judgement by portions goes on from is in the state, which the caller keeps.
  *
  * What a function returns:
- *   0             accepted, found, made, rebalanced, written or started: see each function for the answer
- *   1 to 27       the number of the refusal, as docs/REFUSALS.md lists them. answer[0] is then the record and answer[1]
+ *   0             accepted, found, made, rebalanced, dropped, written or started: see each function for the answer
+ *   1 to 28       the number of the refusal, as docs/REFUSALS.md lists them. answer[0] is then the record and answer[1]
  *                 the position, both 0 where the refusal has no place; nothing else is written. f24_judge_portion has
- *                 the number of records examined before them
+ *                 the number of records examined before them. 28, of f24_drop alone: no delega would be left
  *   100           there is room for too few numbers in answer or in state (F24_NO_ROOM): nothing was read, written,
- *                 corrected or rebalanced. A list of changed fields that is too short is 27, a refusal
+ *                 corrected, rebalanced or dropped. A list of changed fields that is too short is 27, a refusal
  *   101           the judgement by portions has not ended yet (F24_NOT_ENDED)
  *   102           the state is foreign: no judgement by portions of this flow handed it back (F24_FOREIGN)
  * 101 and 102 come from f24_judge_portion alone.
  *
- * Numbers of answer, of state and of changed beyond those that are written stay as they were, and so does every byte
- * of a flow that is neither corrected nor rebalanced and every byte of a room that no flow is written to.
+ * Numbers of answer, of state and of changed beyond those that are written stay as they were, and so do all of numbers,
+ * every byte of a flow that is neither corrected nor rebalanced nor shortened and every byte of a room that no flow is
+ * written to.
  *
  * The sections stand in this order everywhere: Erario (lines 40-01), INPS (40-03), Regioni (40-05), IMU and local
  * taxes (40-07), identifying elements (40-17).
@@ -42,7 +44,8 @@ extern "C" {
 #endif
 
 /* The version of these answers. Version 1 had no line counts and no sets of sections: f24_judge needed room for 13
- * numbers then and f24_delega for 11, and the sums stood at answer[3] and answer[1] on. */
+ * numbers then and f24_delega for 11, and the sums stood at answer[3] and answer[1] on. Version 2 began without
+ * f24_drop, and nothing that it answers has changed since: a header that defines F24_DROP_ROOM has f24_drop. */
 #define F24_VERSION 2
 
 /* The return value where answer or state has too little room. */
@@ -58,6 +61,7 @@ extern "C" {
 #define F24_FIND_ROOM 2
 #define F24_CORRECT_ROOM 2
 #define F24_REBALANCE_ROOM 2
+#define F24_DROP_ROOM 2
 #define F24_WRITE_ROOM 2
 #define F24_PORTION_ROOM 15
 
@@ -134,6 +138,23 @@ uint64_t f24_correct(uint8_t *flow, size_t flow_len, uint64_t delega, uint64_t s
  */
 uint64_t f24_rebalance(uint8_t *flow, size_t flow_len, uint64_t *changed, size_t changed_len, uint64_t *answer,
                        size_t answer_len);
+
+/* Drops deleghe from a flow, by their numbers. Where that is done:
+ *   answer[0]           the length of what is left in bytes, 120 for each of its records
+ * answer[1] is then left as it was. What is left stands at the start of flow: F4, the other deleghe in their order,
+ * numbered from 1, and EF with their number, the sum of their final balances and the number of records. But for these
+ * numbers every byte of its records is as it was, and it is accepted. Every byte of flow behind it is a space: a later
+ * call is lent answer[0] bytes, since with the spaces the flow is refused 4.
+ *
+ * The numbers are those of the flow before the call, in any order. Where numbers_len is 0 nothing changes, and
+ * answer[0] is flow_len. Dropping one by one ends in the same bytes, where a number above one that was dropped is one
+ * less afterwards.
+ *
+ * After the refusals of the judgement it tries 21 (a number is 0, is above the number of deleghe or is named twice) and
+ * 28 (no delega would be left). A refusal leaves every byte of the flow as it was.
+ */
+uint64_t f24_drop(uint8_t *flow, size_t flow_len, const uint64_t *numbers, size_t numbers_len, uint64_t *answer,
+                  size_t answer_len);
 
 /* Writes the flow of a working sheet into a room. docs/SHEETS.md says what a sheet is. Where that is done:
  *   answer[0]           the length of the flow in bytes, 120 for each of its records

@@ -20,7 +20,7 @@ mod rng;
 mod sound;
 mod taxcodes;
 
-use calls::{Call, CHANGED_MOST, MOST_NUMBERS, REBALANCE_ROOM};
+use calls::{Call, CHANGED_MOST, DROP_ROOM, MOST_NUMBERS, REBALANCE_ROOM};
 use columns::RECORD;
 use flows::{Spot, CASES};
 use std::io::Write;
@@ -32,8 +32,9 @@ const USAGE: &str = "usage:
   bench flow CASE                 writes the flow of a case to standard output
   bench count WHO CASE TIMES      judges; WHO is library, reference, fast, characters or sum
   bench call WHO CALL TIMES       on the flow of 546 records; WHO is library or reference, CALL delega, find, correct,
-                                  rebalance, or blanked for a rebalancing with every stored field blanked before it;
-                                  WHO may be nobody with blanked, which then blanks alone
+                                  rebalance, blanked for a rebalancing with every stored field blanked before it, drop
+                                  for one delega in the middle that is dropped, or halved for every other one; WHO may
+                                  be nobody with the last three, which then copies the flow alone
   bench clock ROUNDS              times them all, in turns: nanoseconds per flow, the median of the rounds
   bench memory                    bytes of stack and of heap that one call takes on each case";
 
@@ -153,6 +154,11 @@ fn calls(who: &str, call: &str, times: u64) -> Option<()> {
         _ => (),
     }
     let (mut flow, spot) = flows::middle();
+    match call {
+        "drop" => return drop_deleghe(who, &flow, &[spot.delega], times),
+        "halved" => return drop_deleghe(who, &flow, &flows::every_other(&flow), times),
+        _ => (),
+    }
     let Spot { delega, subtype, place, amounts: (debit, credit) } = spot;
     let correct = |debit| Call::Correct { delega, subtype, place, debit, credit };
     let turns = match call {
@@ -194,6 +200,29 @@ fn rebalance(who: &str, flow: &[u8], anew: bool, times: u64) -> Option<()> {
         }
         let code = opaque(side)(&mut lent, &mut list, &mut answer);
         assert!(code == 0 && (answer[0] > 0) == anew, "a rebalancing by the {who} is answered {code} {answer:?}");
+    }
+    Some(())
+}
+
+/// Drops deleghe from a flow so many times, which is copied anew each time; nobody
+/// copies it and does no more.
+fn drop_deleghe(who: &str, flow: &[u8], numbers: &[u64], times: u64) -> Option<()> {
+    let side: fn(&mut [u8], &[u64], &mut [u64]) -> u64 = match who {
+        "library" => ffi::drop_deleghe,
+        "reference" => rival::drop_deleghe,
+        "nobody" => |_, _, answer| {
+            answer[0] = 0;
+            0
+        },
+        _ => return None,
+    };
+    let mut lent = flow.to_vec();
+    let mut answer = [0; DROP_ROOM];
+    for _ in 0..times {
+        lent.copy_from_slice(flow);
+        let code = opaque(side)(&mut lent, numbers, &mut answer);
+        let done = code == 0 && answer[0] < flow.len() as u64;
+        assert!(done, "a dropping by the {who} is answered {code} {answer:?}");
     }
     Some(())
 }

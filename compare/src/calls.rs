@@ -27,6 +27,9 @@ pub const PORTION_ROOM: usize = 15;
 pub const REBALANCE_ROOM: usize = 2;
 pub const CHANGED_MOST: usize = 4368;
 
+/// How many numbers the answer of a dropping needs room for.
+pub const DROP_ROOM: usize = 2;
+
 /// Whether an answer is one to the records: lengths, room and bytes that are no
 /// sheet come before them.
 pub fn is_of_records(code: u64) -> bool {

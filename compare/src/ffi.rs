@@ -58,6 +58,14 @@ extern "C" {
         answer: *mut u64,
         answer_len: usize,
     ) -> u64;
+    fn f24_drop(
+        flow: *mut u8,
+        flow_len: usize,
+        numbers: *const u64,
+        numbers_len: usize,
+        answer: *mut u64,
+        answer_len: usize,
+    ) -> u64;
 }
 
 /// Makes a call on a flow and lets the library write its answer into the room.
@@ -113,6 +121,16 @@ pub fn rebalance(flow: &mut [u8], changed: &mut [u64], answer: &mut [u64]) -> u6
     unsafe { f24_rebalance(flow.as_mut_ptr(), flow.len(), list, numbers, answer.as_mut_ptr(), answer.len()) }
 }
 
+/// Lets the library drop the deleghe with these numbers from a flow and write its
+/// answer.
+#[cfg(not(stand_in))]
+pub fn drop_deleghe(flow: &mut [u8], numbers: &[u64], answer: &mut [u64]) -> u64 {
+    let (list, length) = (numbers.as_ptr(), numbers.len());
+    // SAFETY: the three pointers are to slices of these lengths, lent for the
+    // call alone and apart from one another; the library asks nothing else.
+    unsafe { f24_drop(flow.as_mut_ptr(), flow.len(), list, length, answer.as_mut_ptr(), answer.len()) }
+}
+
 /// A build with `--cfg stand_in` links no library: the reference takes its
 /// place, and nothing is compared but the reference with itself.
 #[cfg(stand_in)]
@@ -141,4 +159,9 @@ pub fn judge_portion(flow: &[u8], portion: u64, state: &mut [u64], answer: &mut 
 #[cfg(stand_in)]
 pub fn rebalance(flow: &mut [u8], changed: &mut [u64], answer: &mut [u64]) -> u64 {
     crate::rival::rebalance(flow, changed, answer)
+}
+
+#[cfg(stand_in)]
+pub fn drop_deleghe(flow: &mut [u8], numbers: &[u64], answer: &mut [u64]) -> u64 {
+    crate::rival::drop_deleghe(flow, numbers, answer)
 }

@@ -94,7 +94,13 @@ pub fn middle() -> (Vec<u8>, Spot) {
     (flow.bytes, spot)
 }
 
-/// The same flow with blanks in every stored field.
+/// The numbers of every other delega of a flow, from the second on.
+pub fn every_other(flow: &[u8]) -> Vec<u64> {
+    let tail = &flow[flow.len() - RECORD..];
+    (2..=sound::get(tail, TAIL_DELEGHE, COUNT)).step_by(2).collect()
+}
+
+/// The flow of 546 records with blanks in every stored field.
 pub fn blanked() -> Vec<u8> {
     let mut flow = middle().0;
     for record in flow.chunks_exact_mut(RECORD) {

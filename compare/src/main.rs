@@ -13,6 +13,15 @@ mod correction;
 mod damage;
 mod dates;
 mod delega_vectors;
+mod drop_difference;
+mod drop_flows;
+mod drop_lists;
+mod drop_steps;
+mod drop_tally;
+mod drop_vectors;
+mod dropped;
+mod dropping;
+mod drops;
 mod endings;
 mod ffi;
 mod forged;
@@ -63,11 +72,11 @@ use std::process::ExitCode;
 use writing::Writings;
 
 const USAGE: &str = "usage:
-  compare SEED FLOWS CORRECTIONS [SHEETS [SERIES [REBALANCINGS]]]
-                                             compares so many random cases; SERIES and REBALANCINGS are 200000 where
-                                             they are not given
-  compare again SEED KIND INDEX              compares one of these once more; KIND is flow, correction, sheet, series
-                                             or rebalancing
+  compare SEED FLOWS CORRECTIONS [SHEETS [SERIES [REBALANCINGS [DROPS]]]]
+                                             compares so many random cases; SERIES, REBALANCINGS and DROPS are 200000
+                                             where they are not given
+  compare again SEED KIND INDEX              compares one of these once more; KIND is flow, correction, sheet, series,
+                                             rebalancing or dropping
   compare dates                              compares every six digits as the date of a flow and of a sheet
   compare codes FILE                         compares every last character behind the tax codes' beginnings of a file
   compare frames FILE..                      compares the flows of framed files
@@ -75,6 +84,7 @@ const USAGE: &str = "usage:
   compare sheets FILE..                      compares files, a sheet each
   compare portions FILE..                    compares files, a flow each, judged by portions
   compare rebalances FILE..                  compares files, a flow each, rebalanced
+  compare drops FILE..                       compares files, a flow each, with deleghe dropped
   compare seeds SEED COUNT FOLDER            writes small random flows, a file each, for a fuzzer to start from
   compare vectors SEED COUNT FLOWS STDOUT    writes random flows with the reference's answers
   compare vectors sheets SEED COUNT DATA STDOUT
@@ -85,6 +95,8 @@ const USAGE: &str = "usage:
                                              writes random judgements by portions with the reference's answers
   compare vectors rebalances SEED COUNT DATA STDOUT
                                              writes random rebalancings with the reference's answers
+  compare vectors drops SEED COUNT DATA STDOUT
+                                             writes random droppings with the reference's answers
 The first difference goes to the folder that COMPARE_FOLDER names, or to 'difference'.";
 
 /// Fewest times that each answer must come up in a full run.
@@ -100,6 +112,7 @@ pub enum Failure {
     SheetDiffers(String, Box<writing::Difference>),
     SeriesDiffers(String, Box<portion::Difference>),
     RebalancingDiffers(String, Box<rebalancing::Difference>),
+    DroppingDiffers(String, Box<drop_difference::Difference>),
     /// An answer that came up too seldom for the run to say much.
     Seldom,
 }
@@ -135,6 +148,10 @@ fn main() -> ExitCode {
             eprintln!("\nDIFFERENCE in a rebalancing");
             shown(&case, difference.write(&folder(), &case))
         }
+        Err(Failure::DroppingDiffers(case, difference)) => {
+            eprintln!("\nDIFFERENCE in a dropping");
+            shown(&case, difference.write(&folder(), &case))
+        }
     }
 }
 
@@ -156,6 +173,7 @@ fn run(words: &[&str]) -> Result<(), Failure> {
         ["sheets", ref files @ ..] if !files.is_empty() => sheets::compare_files(files),
         ["portions", ref files @ ..] if !files.is_empty() => series::compare_files(files),
         ["rebalances", ref files @ ..] if !files.is_empty() => rebalances::compare_files(files),
+        ["drops", ref files @ ..] if !files.is_empty() => drops::compare_files(files),
         ["seeds", seed, count, folder] => seeds(number(seed)?, number(count)?, Path::new(folder)),
         ["vectors", "sheets", seed, count, data, stdout] => {
             sheet_vectors::write(number(seed)?, number(count)?, data, stdout)
@@ -173,11 +191,15 @@ fn run(words: &[&str]) -> Result<(), Failure> {
             rebalance_vectors::write(number(seed)?, number(count)?, data, stdout)
                 .map_err(|error| Failure::Io(error.to_string()))
         }
+        ["vectors", "drops", seed, count, data, stdout] => {
+            drop_vectors::write(number(seed)?, number(count)?, data, stdout)
+                .map_err(|error| Failure::Io(error.to_string()))
+        }
         ["vectors", seed, count, flows, stdout] => {
             vectors::write(number(seed)?, number(count)?, flows, stdout).map_err(|error| Failure::Io(error.to_string()))
         }
-        [seed, ref counts @ ..] if (2..=5).contains(&counts.len()) => {
-            let mut all = [0, 0, 0, series::FULL, rebalances::FULL];
+        [seed, ref counts @ ..] if (2..=6).contains(&counts.len()) => {
+            let mut all = [0, 0, 0, series::FULL, rebalances::FULL, drops::FULL];
             for (count, word) in all.iter_mut().zip(counts) {
                 *count = number(word)?;
             }
@@ -195,9 +217,9 @@ fn folder() -> PathBuf {
     PathBuf::from(std::env::var_os("COMPARE_FOLDER").unwrap_or_else(|| "difference".into()))
 }
 
-fn compare(seed: u64, [flows, corrections, sheets, many, mended]: [u64; 5]) -> Result<(), Failure> {
+fn compare(seed: u64, [flows, corrections, sheets, many, mended, dropped]: [u64; 6]) -> Result<(), Failure> {
     let mut what = format!("{flows} flows, {corrections} corrections");
-    for (count, name) in [(sheets, "sheets"), (many, "series"), (mended, "rebalancings")] {
+    for (count, name) in [(sheets, "sheets"), (many, "series"), (mended, "rebalancings"), (dropped, "droppings")] {
         if count > 0 {
             what += &format!(", {count} {name}");
         }
@@ -232,6 +254,7 @@ fn compare(seed: u64, [flows, corrections, sheets, many, mended]: [u64; 5]) -> R
     }
     let series = series::compare(&pool, seed, many)?;
     let rebalancings = rebalances::compare(&pool, seed, mended)?;
+    let droppings = drops::compare(&pool, seed, dropped)?;
 
     comparer.tally.print();
     shapes.print();
@@ -241,6 +264,9 @@ fn compare(seed: u64, [flows, corrections, sheets, many, mended]: [u64; 5]) -> R
     series.print(many);
     if mended > 0 {
         rebalancings.tally.print();
+    }
+    if dropped > 0 {
+        droppings.tally.print();
     }
     let judged = (0..=20).chain([26]).map(|way| (comparer.tally.of(0, way), format!("judge {way}"))).min();
     let corrected =
@@ -273,7 +299,8 @@ fn compare(seed: u64, [flows, corrections, sheets, many, mended]: [u64; 5]) -> R
         eprintln!("compare: an answer came up fewer than {FEWEST} times");
     }
     seldom |= series.is_seldom(many);
-    if rebalances::is_seldom(&rebalancings, mended) || seldom {
+    seldom |= rebalances::is_seldom(&rebalancings, mended);
+    if drops::is_seldom(&droppings, dropped) || seldom {
         return Err(Failure::Seldom);
     }
     println!("no difference");
@@ -579,6 +606,7 @@ fn again(seed: u64, kind: &str, index: u64) -> Result<(), Failure> {
         "sheet" => return sheets::again(&pool, seed, index),
         "series" => return series::again(&pool, seed, index),
         "rebalancing" => return rebalances::again(&pool, seed, index),
+        "dropping" => return drops::again(&pool, seed, index),
         _ => return Err(Failure::Usage),
     };
     compared.map_err(|difference| differs(seed, kind, index, difference))?;

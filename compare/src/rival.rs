@@ -1,6 +1,6 @@
 //! The reference, answering as include/f24.h says that the library does.
 
-use crate::calls::{Call, FOREIGN, NOT_ENDED, NO_ROOM, PORTION_ROOM, REBALANCE_ROOM, STATE_ROOM, SUMS};
+use crate::calls::{Call, DROP_ROOM, FOREIGN, NOT_ENDED, NO_ROOM, PORTION_ROOM, REBALANCE_ROOM, STATE_ROOM, SUMS};
 use reference::{Answer, Refusal, State, Summary};
 
 /// Makes a call on a flow and writes its answer into the room.
@@ -112,6 +112,24 @@ pub fn rebalance(flow: &mut [u8], changed: &mut [u64], answer: &mut [u64]) -> u6
     match reference::rebalance(flow, changed) {
         Ok(listed) => {
             answer[0] = listed as u64;
+            0
+        }
+        Err(Refusal { number, record, position }) => {
+            answer[0] = record as u64;
+            answer[1] = position as u64;
+            u64::from(number)
+        }
+    }
+}
+
+/// Drops the deleghe with these numbers from a flow and writes the answer.
+pub fn drop_deleghe(flow: &mut [u8], numbers: &[u64], answer: &mut [u64]) -> u64 {
+    if answer.len() < DROP_ROOM {
+        return NO_ROOM;
+    }
+    match reference::drop_deleghe(flow, numbers) {
+        Ok(length) => {
+            answer[0] = length as u64;
             0
         }
         Err(Refusal { number, record, position }) => {

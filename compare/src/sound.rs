@@ -92,7 +92,7 @@ impl DelegaPlan {
     }
 }
 
-const RECEIPTS: [&[Kind]; 3] = [&[], &[Receipt], &[Receipt, Addressee]];
+pub const RECEIPTS: [&[Kind]; 3] = [&[], &[Receipt], &[Receipt, Addressee]];
 
 pub fn plan(rng: &mut Rng, size: Size) -> Plan {
     let amounts =
@@ -469,13 +469,26 @@ impl Pool {
 
 struct Writer<'a> {
     flow: Flow,
+    /// Deleghe written so far, and the sum of their balances.
+    deleghe: u64,
+    sum: i64,
     rng: &'a mut Rng,
     pool: &'a Pool,
     filler: Filler,
 }
 
-impl Writer<'_> {
-    fn record(&mut self, kind: Kind, delega: u64) -> &mut [u8] {
+impl<'a> Writer<'a> {
+    /// One that has written the head.
+    fn new(rng: &'a mut Rng, pool: &'a Pool, plan: &Plan) -> Self {
+        let flow = Flow { bytes: Vec::with_capacity(2048), kinds: Vec::with_capacity(32) };
+        let mut w = Writer { flow, deleghe: 0, sum: 0, rng, pool, filler: plan.filler };
+        let head = w.record(Head);
+        head[DATE - 1..DATE - 1 + DAY].copy_from_slice(&plan.date);
+        head[NAME - 1..NAME - 1 + NAME_WIDTH].copy_from_slice(&plan.name);
+        w
+    }
+
+    fn record(&mut self, kind: Kind) -> &mut [u8] {
         let start = self.flow.bytes.len();
         let filler = self.pool.part(self.rng, self.filler);
         self.flow.bytes.extend_from_slice(filler);
@@ -483,62 +496,80 @@ impl Writer<'_> {
         let record = &mut self.flow.bytes[start..];
         record[TYPE - 1..TYPE + 1].copy_from_slice(&kind.type_bytes());
         if !matches!(kind, Head | Tail) {
-            put(record, DELEGA, COUNT, delega);
+            put(record, DELEGA, COUNT, self.deleghe);
         }
         if let Some(subtype) = kind.subtype() {
             put(record, SUBTYPE, 2, subtype);
         }
         record
     }
+
+    /// The next delega.
+    fn delega(&mut self, delega: &DelegaPlan) {
+        self.deleghe += 1;
+        let code = codes::sound(self.rng);
+        codes::set(self.record(Payer), &code);
+        self.record(Domicile);
+        for section in &delega.sections {
+            self.section(section);
+        }
+        let balance = delega.balance();
+        self.sum += balance;
+        put(self.record(Payment), FINAL_BALANCE, AMOUNT, balance.unsigned_abs());
+        for &kind in delega.receipts {
+            self.record(kind);
+        }
+    }
+
+    fn section(&mut self, section: &SectionPlan) {
+        let columns = &SECTIONS[section.section];
+        for &(debit, credit) in &section.lines {
+            let record = self.record(Line(section.section));
+            put(record, columns.debit, AMOUNT, debit);
+            put(record, columns.credit, AMOUNT, credit);
+        }
+        let (debit, credit) = section.sums();
+        let record = self.record(Balance(section.section));
+        if let Some((at_debit, at_credit)) = columns.totals {
+            put(record, at_debit, AMOUNT, debit);
+            put(record, at_credit, AMOUNT, credit);
+        }
+        record[columns.sign - 1] = if debit < credit { b'N' } else { b'P' };
+        put(record, columns.balance, AMOUNT, debit.abs_diff(credit));
+    }
+
+    fn tail(mut self, plan: &Plan) -> Flow {
+        let records = self.flow.kinds.len() as u64 + 1;
+        let (deleghe, sum) = (self.deleghe, self.sum.unsigned_abs());
+        let tail = self.record(Tail);
+        tail[NAME - 1..NAME - 1 + NAME_WIDTH].copy_from_slice(&plan.name);
+        put(tail, TAIL_DELEGHE, COUNT, deleghe);
+        put(tail, TAIL_SUM, AMOUNT, sum);
+        put(tail, TAIL_RECORDS, COUNT, records);
+        self.flow
+    }
 }
 
 /// The records of a plan. A sum that needs more than fifteen digits is cut to
 /// its last fifteen; a plan that is sound has none.
 pub fn write(rng: &mut Rng, pool: &Pool, plan: &Plan) -> Flow {
-    let flow = Flow { bytes: Vec::with_capacity(2048), kinds: Vec::with_capacity(32) };
-    let mut w = Writer { flow, rng, pool, filler: plan.filler };
+    let mut w = Writer::new(rng, pool, plan);
+    plan.deleghe.iter().for_each(|delega| w.delega(delega));
+    w.tail(plan)
+}
 
-    let head = w.record(Head, 0);
-    head[DATE - 1..DATE - 1 + DAY].copy_from_slice(&plan.date);
-    head[NAME - 1..NAME - 1 + NAME_WIDTH].copy_from_slice(&plan.name);
-
-    let mut sum = 0;
-    for (delega, number) in plan.deleghe.iter().zip(1..) {
-        let code = codes::sound(w.rng);
-        codes::set(w.record(Payer, number), &code);
-        w.record(Domicile, number);
-        for section in &delega.sections {
-            let columns = &SECTIONS[section.section];
-            for &(debit, credit) in &section.lines {
-                let record = w.record(Line(section.section), number);
-                put(record, columns.debit, AMOUNT, debit);
-                put(record, columns.credit, AMOUNT, credit);
-            }
-            let (debit, credit) = section.sums();
-            let record = w.record(Balance(section.section), number);
-            if let Some((at_debit, at_credit)) = columns.totals {
-                put(record, at_debit, AMOUNT, debit);
-                put(record, at_credit, AMOUNT, credit);
-            }
-            record[columns.sign - 1] = if debit < credit { b'N' } else { b'P' };
-            put(record, columns.balance, AMOUNT, debit.abs_diff(credit));
-        }
-        let balance = delega.balance();
-        sum += balance;
-        let record = w.record(Payment, number);
-        put(record, FINAL_BALANCE, AMOUNT, balance.unsigned_abs());
-        for &kind in delega.receipts {
-            w.record(kind, number);
-        }
+/// The records of a plan, of those deleghe alone whose places are kept. Fillers and
+/// tax codes hang on the seed and on a delega's place in the plan: what is written of
+/// one is the same, but for its number, whichever others are there.
+pub fn write_kept(seed: u64, pool: &Pool, plan: &Plan, kept: impl Fn(usize) -> bool) -> Flow {
+    let mut rng = Rng::new(seed, 26, 0);
+    let mut w = Writer::new(&mut rng, pool, plan);
+    for (place, delega) in plan.deleghe.iter().enumerate().filter(|&(place, _)| kept(place)) {
+        *w.rng = Rng::new(seed, 27, place as u64);
+        w.delega(delega);
     }
-
-    let records = w.flow.kinds.len() as u64 + 1;
-    let tail = w.record(Tail, 0);
-    tail[NAME - 1..NAME - 1 + NAME_WIDTH].copy_from_slice(&plan.name);
-    put(tail, TAIL_DELEGHE, COUNT, plan.deleghe.len() as u64);
-    put(tail, TAIL_SUM, AMOUNT, sum.unsigned_abs());
-    put(tail, TAIL_RECORDS, COUNT, records);
-    w.flow
+    *w.rng = Rng::new(seed, 26, 1);
+    w.tail(plan)
 }
 
 /// Writes the last `width` digits of a number at a position counted from 1.

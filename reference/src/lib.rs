@@ -2,7 +2,8 @@
 //! the columns of CBI-F24-001. Words in quotation marks are those rules'. The
 //! writer of flows from working sheets is after document 02, and so are the
 //! position of refusal 7 and the date rule, which 02 amends, refusal 26, the
-//! lines and sections of a summary, the judge by portions and the rebalancing.
+//! lines and sections of a summary, the judge by portions, the rebalancing and the
+//! dropping of deleghe.
 //!
 //! Every input is taken, of every length and value. Sums can't overflow: a
 //! flow has at most 546 records with amounts below 10^15.
@@ -10,6 +11,9 @@
 mod codes;
 mod dates;
 mod digits;
+mod dropping;
+#[cfg(test)]
+mod dropping_tests;
 #[cfg(test)]
 mod foreign_tests;
 mod judgement;
@@ -27,6 +31,7 @@ mod sheets;
 mod tests;
 
 use digits::{non_digit, write_fifteen};
+pub use dropping::drop_deleghe;
 use judgement::{Fault, Judgement, Step, Usage};
 use layout::*;
 pub use portions::{judge_portion, Answer, Answered, State, STATE_NUMBERS};

@@ -1,5 +1,6 @@
 //! The command line of the reference judge.
 
+mod drop_cases;
 #[path = "lib.rs"]
 mod f24;
 mod portion_cases;
@@ -19,10 +20,12 @@ const USAGE: &str = "usage:
   reference correct FILE DELEGA SUBTYPE PLACE DEBIT CREDIT [OUT]
   reference write SHEET [OUT]
   reference rebalance FILE [OUT]
+  reference drop FILE OUT NUMBER..
   reference batch FILE
   reference sheets FILE
   reference portions FILE
-  reference rebalances FILE";
+  reference rebalances FILE
+  reference drops FILE";
 
 /// "reads standard input, up to 65,521 bytes": one more than a flow may have.
 const MOST_READ: u64 = 65_521;
@@ -85,10 +88,14 @@ fn run(words: &[&str], out: &mut impl Write) -> io::Result<()> {
                 false => Ok(()),
             }
         }
+        ["drop", file, to, ref numbers @ ..] if !numbers.is_empty() => {
+            drop_cases::one(out, file, to, numbers)
+        }
         ["batch", file] => batch(out, &read(file, u64::MAX)?),
         ["sheets", file] => sheets(out, &read(file, u64::MAX)?),
         ["portions", file] => portion_cases::answer(out, &read(file, u64::MAX)?),
         ["rebalances", file] => rebalance_cases::answer(out, &read(file, u64::MAX)?),
+        ["drops", file] => drop_cases::answer(out, &read(file, u64::MAX)?),
         _ => Err(io::Error::new(io::ErrorKind::InvalidInput, USAGE)),
     }
 }
