@@ -1,7 +1,7 @@
--- Serves inner functions. What the header of a run case says: how long its flow is, and the numbers of its call.
-use Prim.Native.Nat.{ℕ, _-_}
+-- Serves inner functions. What the header of a run case says: how long its flow is, and the numbers of its call; and the numbers in a text of a run case.
+use Prim.Native.Nat.{ℕ, zero, suc, _-_, _*_, _/_}
 use mathlib.Core.Bool.{cond}
-use mathlib.Core.List.{List}
+use mathlib.Core.List.{List, [], _∷_, _++_}
 use lib.Dec.{ltb}
 use lib.ListN.{length, take, drop}
 use Rattle.text.specs.declared.Digits.{Digits}
@@ -38,3 +38,12 @@ sizeOf digits = sizeRead (readNumber digits)
 -- the length that a header says: in six digits before its line end; a header too short for them says none
 unfoldable pub lengthIn : List ℕ → ℕ
 lengthIn head = cond (ltb (length head) 7) 99999 (sizeOf (take 6 (drop (length head - 7) head)))
+
+-- the i-th number of a text, counted from 0: each in 20 digits with a byte behind it; zero where the text is too short for it
+unfoldable pub numberIn : List ℕ → ℕ → ℕ
+numberIn text i = cond (ltb i (length text / 21)) (numberAt (21 * i) text) 0
+
+-- its first n numbers
+unfoldable pub numbersIn : List ℕ → ℕ → List ℕ
+numbersIn text zero = []
+numbersIn text (suc n) = numbersIn text n ++ (numberIn text n ∷ [])

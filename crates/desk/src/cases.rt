@@ -5,7 +5,7 @@ ghost use Prim.Native.Nat.{_≤_};
 ghost use lib.ListN.{length};
 ghost use Rattle.args.specs.Decimal.{decimalOf};
 ghost use Rattle.libc.specs.Io.{Moved};
-ghost use Rattle.desk.specs.Header.{orZero, numbersOf, sizeOf, lengthIn};
+ghost use Rattle.desk.specs.Header.{orZero, numbersOf, sizeOf, lengthIn, numberIn, numbersIn};
 use crate::Numbers;
 use args::Argument;
 use libc::STDOUT_FILENO;
@@ -42,7 +42,7 @@ fn print_name(head: &[u8]) {
 }
 
 // A number of a run case; zero where its digits are none.
-pub fn number_of(digits: &[u8]) -> u64
+fn number_of(digits: &[u8]) -> u64
     ensures { λ r. ⌜ r ≡ orZero (decimalOf (now (digits .entry))) ⌝ }
 {
     match args::decimal(digits) {
@@ -61,6 +61,28 @@ pub fn numbers_of(head: [u8; 153]) -> Numbers
         third: number_of(&head[83..103]),
         fourth: number_of(&head[104..124]),
         fifth: number_of(&head[125..145]),
+    }
+}
+
+// The i-th number of a text, counted from 0: each stands in 20 digits with a byte behind it. Zero where the text is too short for it.
+fn number_in(text: &[u8], i: usize) -> u64
+    ensures { λ r. ⌜ r ≡ numberIn (now (text .entry)) i ⌝ }
+{
+    if i < text.len() / 21 {
+        let from = 21 * i;
+        return number_of(&text[from..from + 20]);
+    }
+    0
+}
+
+// Fills a list with the first numbers of a text.
+pub fn put_numbers(list: &mut [u64], text: &[u8])
+    ensures { λ _. ⌜ now (list .exit) ≡ numbersIn (now (text .entry)) (length (now (list .entry))) ⌝ }
+{
+    let mut i: usize = 0;
+    while i < list.len() {
+        list[i] = number_in(text, i);
+        i += 1;
     }
 }
 

@@ -19,6 +19,7 @@ use Rattle.judge.proofs.Accepted.{accepted-means-no-fault}
 use Rattle.judge.proofs.Counts.{accepted-deleghe}
 use Rattle.close.specs.Closing.{spaced}
 use Rattle.close.proofs.Counted.{too-many}
+use Rattle.dropping.specs.declared.Dropping.{Dropping}
 use Rattle.dropping.specs.declared.Dropping.the-variants.{Dropped, Refused}
 use Rattle.dropping.specs.Dropping.{shortened, weighed, droppingOf, droppedFlow}
 use Rattle.dropping.specs.Inner.{Droppable}
@@ -87,3 +88,7 @@ cut-list f numbers h = go (judged f .verdict) refl
     go : (v : Verdict) → judged f .verdict ≡ v → droppingOf f numbers ≡ droppingOf f (take 547 numbers)
     go Accepted a = let k = few-deleghe f a in long-list f numbers a (omega arith) ∙ sym (long-list f (take 547 numbers) a (omega (arith, length-take-le 547 numbers h)))
     go (Judge.Refused n r p) a = rw a
+
+-- The length answered lies within the flow that is handed back.
+pub dropped-within : (f numbers left : List ℕ) (n : ℕ) (a : Dropping) → a ≡ droppingOf f numbers → left ≡ droppedFlow f numbers → a ≡ Dropped n → n ≤ length left
+dropped-within f numbers left n a p q e = let r = dropped-room f numbers {n = n} (sym p ∙ e) in rw q (omega (arith, r .2, r .3))

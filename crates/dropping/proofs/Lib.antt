@@ -17,3 +17,4 @@ pub mod OneByOne
 pub mod KeptDeleghe
 pub mod BeforeAndAfter
 pub mod OneAnswer
+pub mod Refusals

@@ -4,7 +4,7 @@ use mathlib.Core.Path.{_≡_, sym, _∙_}
 use mathlib.Core.List.{List}
 use Rattle.portion.specs.Portion.{startProgress}
 use Rattle.handed.specs.Room.{progressNumbers}
-use Rattle.f24.specs.Linked.{codeOr, roomOr, judgeCode, judgeRoom, delegaCode, delegaRoom, findCode, findRoom, correctCode, correctFlow, correctRoom, writeCode, writeRoom, writeAnswer, rebalanceCode, rebalanceFlow, rebalanceList, rebalanceAnswer, portionCode, portionState, portionRoom}
+use Rattle.f24.specs.Linked.{codeOr, roomOr, judgeCode, judgeRoom, delegaCode, delegaRoom, findCode, findRoom, correctCode, correctFlow, correctRoom, writeCode, writeRoom, writeAnswer, rebalanceCode, rebalanceFlow, rebalanceList, rebalanceAnswer, dropCode, dropFlow, dropAnswer, portionCode, portionState, portionRoom}
 
 -- `f24_judge`: the number returned, and the room
 pub one-judge : (flow room : List ℕ) (a b : ℕ) (x y : List ℕ) →
@@ -50,6 +50,15 @@ module _ (flow list answer : List ℕ) where
 
   pub one-rebalance : (a b : ℕ) (f g l m x y : List ℕ) → Rebalances a f l x → Rebalances b g m y → (a ≡ b) × (f ≡ g) × (l ≡ m) × (x ≡ y)
   one-rebalance a b f g l m x y p q = (p .0 ∙ sym (q .0), p .1 ∙ sym (q .1), p .2 ∙ sym (q .2), p .3 ∙ sym (q .3))
+
+-- `f24_drop`: the number returned, the flow, and the answer
+module _ (flow numbers answer : List ℕ) where
+  -- what its contract allows
+  abbrev pub Drops : ℕ → List ℕ → List ℕ → Type 0
+  Drops code f x = (code ≡ dropCode flow numbers answer) × (f ≡ dropFlow flow numbers answer) × (x ≡ dropAnswer flow numbers answer)
+
+  pub one-drop : (a b : ℕ) (f g x y : List ℕ) → Drops a f x → Drops b g y → (a ≡ b) × (f ≡ g) × (x ≡ y)
+  one-drop a b f g x y p q = (p .0 ∙ sym (q .0), p .1 ∙ sym (q .1), p .2 ∙ sym (q .2))
 
 -- `f24_start`: the number returned, and the state
 pub one-start : (state : List ℕ) (a b : ℕ) (x y : List ℕ) →

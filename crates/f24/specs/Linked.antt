@@ -22,6 +22,9 @@ use Rattle.write.specs.Writing.{refusalWritten, writingOf, roomAfter}
 use Rattle.mend.specs.declared.Mending.{Mending}
 use Rattle.mend.specs.declared.Mending.the-variants as Listing
 use Rattle.mend.specs.Mending.{refusalMended, mendingOf, mendedFlow, mendedList}
+use Rattle.dropping.specs.declared.Dropping.{Dropping}
+use Rattle.dropping.specs.declared.Dropping.the-variants as Shorter
+use Rattle.dropping.specs.Dropping.{refusalDropped, droppingOf, droppedFlow}
 
 -- A room of fewer than n numbers returns 100, and any other a code.
 unfoldable pub codeOr : ℕ → List ℕ → ℕ → ℕ
@@ -113,6 +116,23 @@ rebalanceFlow f list answer = cond (ltb (length answer) 2) f (mendedFlow f list)
 -- It leaves the list as it came where the answer is too short, and else lists the fields that changed.
 unfoldable pub rebalanceList : List ℕ → List ℕ → List ℕ → List ℕ
 rebalanceList f list answer = cond (ltb (length answer) 2) list (mendedList f list)
+
+-- A flow from which deleghe are dropped writes its new length.
+abbrev pub droppedNumbers : Dropping → List ℕ
+droppedNumbers (Shorter.Dropped n) = n ∷ []
+droppedNumbers (Shorter.Refused n r p) = []
+
+-- `f24_drop` returns 100 for an answer of fewer than 2 numbers, and else what the dropping of the deleghe with these numbers says.
+unfoldable pub dropCode : List ℕ → List ℕ → List ℕ → ℕ
+dropCode f numbers answer = codeOr 2 answer (refusalDropped (droppingOf f numbers) .number)
+
+-- It leaves such an answer as it came, and else writes the new length or the refusal.
+unfoldable pub dropAnswer : List ℕ → List ℕ → List ℕ → List ℕ
+dropAnswer f numbers answer = roomOr 2 answer (answerNumbers (refusalDropped (droppingOf f numbers)) (droppedNumbers (droppingOf f numbers)))
+
+-- It leaves the flow as it came where the answer is too short, and else drops the deleghe from it.
+unfoldable pub dropFlow : List ℕ → List ℕ → List ℕ → List ℕ
+dropFlow f numbers answer = cond (ltb (length answer) 2) f (droppedFlow f numbers)
 
 -- What a portion of at most p records answers, from the state in a room.
 abbrev pub portionOf : List ℕ → ℕ → List ℕ → Portion

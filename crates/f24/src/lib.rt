@@ -1,5 +1,5 @@
-// The linkable library: a flow judged, at once or by portions, one delega, one line, a correction, a flow written from a sheet, and one rebalanced, with the answer
-// in a room of numbers that the caller lends.
+// The linkable library: a flow judged, at once or by portions, one delega, one line, a correction, a flow written from a sheet, one rebalanced, and one from which
+// deleghe are dropped, with the answer in a room of numbers that the caller lends.
 // Each function returns 0, the number of a refusal, or 100 where a room is too short; the judgement by portions also 101 where it has not ended and 102 where it is
 // given a foreign state. The numbers behind those that a function writes stay as they came.
 ghost use mathlib.Core.Path.{_≡_};
@@ -9,8 +9,10 @@ ghost use Rattle.f24.specs.Linked.{codeOr, roomOr};
 ghost use Rattle.f24.specs.Linked.{judgeCode, judgeRoom, delegaCode, delegaRoom, findCode, findRoom, correctCode, correctRoom, correctFlow};
 ghost use Rattle.f24.specs.Linked.{writeCode, writeRoom, writeAnswer};
 ghost use Rattle.f24.specs.Linked.{rebalanceCode, rebalanceFlow, rebalanceList, rebalanceAnswer};
+ghost use Rattle.f24.specs.Linked.{dropCode, dropFlow, dropAnswer};
 ghost use Rattle.f24.specs.Linked.{portionCode, portionState, portionRoom};
 use correct::Correction;
+use dropping::Dropping;
 use find::Found;
 use judge::Verdict;
 use mend::Mending;
@@ -31,6 +33,8 @@ const CORRECT_ROOM: usize = 2;
 const WRITE_ROOM: usize = 2;
 
 const REBALANCE_ROOM: usize = 2;
+
+const DROP_ROOM: usize = 2;
 
 const PORTION_ROOM: usize = 15;
 
@@ -173,6 +177,29 @@ pub extern "C" fn f24_rebalance(flow: &mut [u8], changed: &mut [u64], answer: &m
             0
         }
         Mending::Refused(number, at, position) => {
+            answers::put_refusal(&mut *answer, at, position);
+            number
+        }
+    }
+}
+
+// Drops the deleghe with these numbers from a flow. The answer is the new length of the flow; spaces stand behind it.
+#[no_mangle]
+pub extern "C" fn f24_drop(flow: &mut [u8], numbers: &[u64], answer: &mut [u64]) -> u64
+    ensures { λ r. ⌜ (r ≡ dropCode (now (flow .entry)) (now (numbers .entry)) (now (answer .entry)))
+        × (now (flow .exit) ≡ dropFlow (now (flow .entry)) (now (numbers .entry)) (now (answer .entry)))
+        × (now (answer .exit) ≡ dropAnswer (now (flow .entry)) (now (numbers .entry)) (now (answer .entry))) ⌝ }
+{
+    if answer.len() < DROP_ROOM {
+        return NO_ROOM;
+    }
+    match dropping::drop_deleghe(&mut *flow, numbers) {
+        Dropping::Dropped(length) => {
+            let new_length = [length as u64];
+            state::put(&mut *answer, &new_length);
+            0
+        }
+        Dropping::Refused(number, at, position) => {
             answers::put_refusal(&mut *answer, at, position);
             number
         }

@@ -46,18 +46,6 @@ fn make(flow: &[u8], portions: Numbers, state: &mut [u64]) {
     print_numbers(state);
 }
 
-// The numbers of a state.
-fn state_in(text: [u8; 1113]) -> [u64; 53] {
-    let mut state = [0u64; 53];
-    let mut i: usize = 0;
-    while i < 53 {
-        let at = i * 21;
-        state[i] = desk::number_of(&text[at..at + 20]);
-        i += 1;
-    }
-    state
-}
-
 // One case; false where there is none left.
 fn one_case(fd: i32) -> bool {
     let mut head = [0u8; 153];
@@ -71,7 +59,8 @@ fn one_case(fd: i32) -> bool {
     if !desk::read_next(fd, &mut text, 1112) {
         return false;
     }
-    let mut state = state_in(text);
+    let mut state = [0u64; 53];
+    desk::put_numbers(&mut state, &text);
     make(&flow[0..n], desk::numbers_of(head), &mut state);
     true
 }
