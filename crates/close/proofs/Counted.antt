@@ -1,9 +1,10 @@
--- Numbers named once each, counted: so many deleghe are left as there are, less those that are named.
+-- How many deleghe a list leaves: one by one, and, where each is named once, as many as there are less those that are named.
 use Prim.Native.Nat.{ℕ, zero, suc, _+_, _<_, _≤_}
 use mathlib.Core.Path.{_≡_, refl, sym, ap, _∙_}
 use mathlib.Core.Bool.{Bool, true, false, cond}
 use mathlib.Core.List.{List, [], _∷_}
 use native.Mathlib.Omega.{arith}
+use native.Mathlib.Decide.{decLt, ℕ-discrete}
 use borrow.Author.Tests.{ne-eqb, eqb-true, eqb-false, not-true}
 use lib.Dec.{eqb}
 use lib.ListN.{length}
@@ -47,6 +48,61 @@ module _ (d : ℕ) (ds : List ℕ) where
           let b = left-before m (omega arith) in
           rw (ap (λ (x : ℕ). among x ds) s, f) (omega arith)
       go false e before = let s = eqb-false (suc m) d e in let b = before (omega arith) in omega arith
+
+-- Of one delega more, one more is left where it is not named, and no more where it is.
+pub left-kept : (numbers : List ℕ) (d : ℕ) → among (d + 1) numbers ≡ false → leftOf numbers (d + 1) ≡ leftOf numbers d + 1
+unfolding leftOf
+left-kept numbers d e =
+    let s : d + 1 ≡ suc d = omega arith in
+    rw s (ap (λ (b : Bool). leftOf numbers d + cond b 0 1) (rw s at e))
+
+pub left-taken : (numbers : List ℕ) (d : ℕ) → among (d + 1) numbers ≡ true → leftOf numbers (d + 1) ≡ leftOf numbers d
+unfolding leftOf
+left-taken numbers d e =
+    let s : d + 1 ≡ suc d = omega arith in
+    rw s (ap (λ (b : Bool). leftOf numbers d + cond b 0 1) (rw s at e) ∙ omega arith)
+
+-- Of no delega none is left.
+pub none-left : (numbers : List ℕ) → leftOf numbers 0 ≡ 0
+unfolding leftOf
+none-left numbers = refl
+
+-- No more are left than there are.
+pub left-most : (numbers : List ℕ) (n : ℕ) → leftOf numbers n ≤ n
+unfolding leftOf
+left-most numbers zero = omega arith
+left-most numbers (suc n) = go (among (suc n) numbers) (left-most numbers n)
+  where
+    go : (b : Bool) → leftOf numbers n ≤ n → leftOf numbers n + cond b 0 1 ≤ suc n
+    go true h = omega arith
+    go false h = omega arith
+
+-- The more deleghe, the more are left, or as many.
+pub left-grows : (numbers : List ℕ) (m n : ℕ) → m ≤ n → leftOf numbers m ≤ leftOf numbers n
+unfolding leftOf
+left-grows numbers m zero h = let e : m ≡ 0 = omega arith in rw e (omega arith)
+left-grows numbers m (suc n) h = go (ℕ-discrete m (suc n)) (λ k. left-grows numbers m n k)
+  where
+    go : Dec (m ≡ suc n) → (m ≤ n → leftOf numbers m ≤ leftOf numbers n) → leftOf numbers m ≤ leftOf numbers n + cond (among (suc n) numbers) 0 1
+    go (yes e) k = let z : leftOf numbers m ≡ leftOf numbers n + cond (among (suc n) numbers) 0 1 = ap (leftOf numbers) e in omega arith
+    go (no e) k = omega (arith, k (omega arith))
+
+-- Up to a delega that is not named more are left than up to one before it.
+pub left-rises : (numbers : List ℕ) (m n : ℕ) → m < n → among n numbers ≡ false → leftOf numbers m < leftOf numbers n
+left-rises numbers m zero h a = absurd (omega arith)
+left-rises numbers m (suc n) h a =
+    let s : suc n ≡ n + 1 = omega arith in
+    let k = left-kept numbers n (rw s at a) in
+    rw s (omega (arith, left-grows numbers m n (omega arith)))
+
+-- So two of these have one number only where they are one.
+pub left-apart : (numbers : List ℕ) (m n : ℕ) → among m numbers ≡ false → among n numbers ≡ false → leftOf numbers m ≡ leftOf numbers n → m ≡ n
+left-apart numbers m n a b e = go (decLt m n) (decLt n m)
+  where
+    go : Dec (m < n) → Dec (n < m) → m ≡ n
+    go (yes h) k = absurd (omega (arith, left-rises numbers m n h b))
+    go (no h) (yes k) = absurd (omega (arith, left-rises numbers n m k a))
+    go (no h) (no k) = omega arith
 
 -- A list that names none leaves all.
 pub left-all : (n : ℕ) → leftOf [] n ≡ n

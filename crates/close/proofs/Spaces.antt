@@ -7,7 +7,7 @@ use native.Mathlib.Numerals.{add-one}
 use borrow.Rule.Slice.PartAt.{part-to-end}
 use borrow.Rule.Slice.PartMut.{putMid, postOf}
 use lib.ListN.{length, take, drop, set, replicate, length-append, length-drop, drop-of-length-le, replicate-append-replicate}
-use lib.Seq.{take-all, take-at, take-suc-set}
+use lib.Seq.{take-all, take-at, drop-at, take-suc-set}
 use Rattle.close.specs.Closing.{spaced}
 
 -- One space more stands at the front of a room.
@@ -29,3 +29,13 @@ spaces-behind g f m s n e h p q =
     let b : postOf n (length m - n) m ≡ [] = drop-of-length-le (drop n m) {i = length m - n} (rw length-drop (omega arith)) in
     let c : length (take (length m - n) (drop n m)) ≡ length f - length g = rw (part-to-end, length-drop) (omega arith) in
     rw (a, b, append-nil, q, c)
+
+-- Bytes with spaces behind them: the bytes, and the spaces.
+module _ (g : List ℕ) (n : ℕ) where
+  pub spaced-front : (k : ℕ) → length g ≡ k → take k (spaced g n) ≡ g
+  unfolding spaced
+  spaced-front k e = take-at g _ k e
+
+  pub spaced-behind : (k : ℕ) → length g ≡ k → drop k (spaced g n) ≡ replicate (n - k) 32
+  unfolding spaced
+  spaced-behind k e = drop-at g _ k e ∙ ap (λ (m : ℕ). replicate (n - m) 32) e

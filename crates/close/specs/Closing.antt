@@ -25,7 +25,7 @@ unfoldable pub renumbered : ℕ → List (List ℕ) → List (List ℕ)
 renumbered n [] = []
 renumbered n (r ∷ rs) = withNumber (kindIn r) (nextDeleghe n (kindIn r)) r ∷ renumbered (nextDeleghe n (kindIn r)) rs
 
--- the bytes of the records that stay, with their new numbers
+-- "close the flow up over them, renumber the rest from 1": the bytes of the records that stay, with their new numbers
 unfoldable pub closedUp : List ℕ → List ℕ → List ℕ
 closedUp numbers f = flat (renumbered 0 (keptOf numbers (recordsOf f)))
 
@@ -38,7 +38,7 @@ unfoldable pub eachOnce : ℕ → List ℕ → Bool
 eachOnce n [] = true
 eachOnce n (d ∷ ds) = cond (fromTo 1 n d) (cond (among d ds) false (eachOnce n ds)) false
 
--- of n deleghe, how many the list doesn't name
+-- "when none would be left": of n deleghe, how many the list doesn't name
 unfoldable pub leftOf : List ℕ → ℕ → ℕ
 leftOf numbers zero = 0
 leftOf numbers (suc n) = leftOf numbers n + cond (among (suc n) numbers) 0 1

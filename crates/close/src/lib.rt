@@ -48,7 +48,7 @@ fn is_kept(rec: &[u8], kind: Kind, numbers: &[u64]) -> bool
     true
 }
 
-// Puts the record at one index of a flow at another, before it, with the number of its delega.
+// Puts the record at one index of a flow at another, not behind it, with the number of its delega.
 fn move_record(flow: &mut [u8], from: usize, to: usize, kind: Kind, d: u64)
     requires { ⌜ (from + 120 ≤ length (now flow)) × (to ≤ from) × (d < 10_000_000) ⌝ }
     ensures { λ _. ⌜ now (flow .exit) ≡ putAt to (withNumber kind d (take 120 (drop from (now (flow .entry))))) (now (flow .entry)) ⌝ }

@@ -1,4 +1,4 @@
--- Records that stayed are numbered and rebalanced to the same records as they would be had they never been numbered before; and which of them go when more deleghe are dropped.
+-- Records that stayed are numbered and rebalanced to the same records as they would be had they never been numbered before.
 use Prim.Native.Nat.{ℕ}
 use mathlib.Core.Path.{_≡_, refl, ap, ap₂, _∙_}
 use mathlib.Core.Bool.{true, false}
@@ -20,7 +20,7 @@ use Rattle.rebalance.proofs.Columns.{storing, columns}
 use Rattle.rebalance.proofs.Alike.{Alike, alike-put, alike-equal, alike-stored}
 use Rattle.close.specs.Closing.{renumbered}
 use Rattle.dropping.specs.Effect.{renewed, Stayed, EachStayed}
-use Rattle.dropping.proofs.Left.{renewed-number, unnumbered-same}
+use Rattle.dropping.proofs.OneRecord.{renewed-number, unnumbered-same}
 use Rattle.dropping.proofs.Following.{Sort, head, opening, inside, tail, none, sort}
 use Rattle.dropping.proofs.Stayed.{stayed-kind}
 
@@ -40,6 +40,7 @@ module _ {numbers r q : List ℕ} (s : Stayed numbers r q) (st : State) (n : ℕ
   alike : Alike (renewed (kindIn r)) q r
   alike = record { one = s .is; other = s .was; same = s .same }
 
+  -- The kind is that of the record as it was.
   as-kind : is ≡ withNumber (kindIn r) (nextDeleghe n (kindIn r)) q
   as-kind = ap (λ (k : Kind). withNumber k (nextDeleghe n k) q) (stayed-kind s)
 
@@ -71,6 +72,7 @@ module _ {numbers r q : List ℕ} (s : Stayed numbers r q) (st : State) (n : ℕ
       = alike-stored (tailDeleghe ∷ tailRecords ∷ tailSum ∷ []) (storedOf st Tail) q r (refl, refl, (refl, refl, (refl, refl, tt))) l (record { one = a .one; other = a .other; same = λ c z. a .same c (swapped c tailDeleghe tailSum tailRecords [] ∙ z) }) in
       (rw (i, w, k, e) put, rw (i, w, k, e))
 
+  -- Both are rebalanced to the same record, and lead to the same state.
   pub stayed-again : (emit st (withNumber (kindIn q) (nextDeleghe n (kindIn q)) q) ≡ emit st (withNumber (kindIn r) (nextDeleghe n (kindIn r)) r)) × (next st (withNumber (kindIn q) (nextDeleghe n (kindIn q)) q) ≡ next st (withNumber (kindIn r) (nextDeleghe n (kindIn r)) r))
   unfolding numbered
   stayed-again = go (sort (kindIn r)) refl

@@ -11,13 +11,14 @@ use lib.Dec.{eqb, ltb}
 use lib.ListN.{length}
 use Rattle.text.specs.Among.{among}
 use Rattle.text.proofs.Tests.{untrue}
+use Rattle.text.proofs.Bytes.{within}
 use Rattle.judge.specs.declared.Verdict.{Verdict}
 use Rattle.judge.specs.declared.Verdict.the-variants as Judge
 use Rattle.judge.specs.declared.Verdict.the-variants.{Accepted}
 use Rattle.judge.specs.Refusal.{judgedFirst}
 use Rattle.judge.specs.Flow.{judged}
 use Rattle.close.specs.Closing.{eachOnce, leftOf}
-use Rattle.close.proofs.Counted.{once-parts}
+use Rattle.close.proofs.Counted.{once-parts, left-counted}
 use Rattle.dropping.specs.declared.Dropping.{Dropping}
 use Rattle.dropping.specs.declared.Dropping.the-variants.{Dropped, Refused}
 use Rattle.dropping.specs.Dropping.{shortened, weighed, droppingOf}
@@ -34,7 +35,7 @@ among-names d (n ∷ ns) e = go (eqb d n) refl e (among-names d ns)
     go true q f h = here (eqb-true d n q)
     go false q f h = behind (h f)
 
-names-among : {d : ℕ} {ns : List ℕ} → Names d ns → among d ns ≡ true
+pub names-among : {d : ℕ} {ns : List ℕ} → Names d ns → among d ns ≡ true
 unfolding among
 names-among {d} (here {n} e) = rw (eq-eqb d n e)
 names-among {d} (behind {n} {ns} x) = go (eqb d n) (names-among x)
@@ -103,6 +104,7 @@ module _ (f numbers : List ℕ) where
   good-list : judged f .verdict ≡ Accepted → eachOnce deleghe numbers ≡ true → GoodList f numbers
   good-list a e = record { accepted = a; good = λ x. bad-out x e }
 
+  -- Of a good list each number is that of a delega, named once.
   once-of : GoodList f numbers → eachOnce (judged f .summary .deleghe) numbers ≡ true
   once-of g = go (eachOnce deleghe numbers) refl
     where
@@ -152,3 +154,16 @@ module _ (f numbers : List ℕ) where
       go (BadList i x) q = let z : _≡_ {A = ℕ} 0 1 = cc in absurd (omega arith)
       go (NoneLeft g h) q = let z : _≡_ {A = ℕ} 0 1 = cc in absurd (omega arith)
       go (AreDropped g u) q = (record { accepted = g .accepted; once = once-of g; some = some-left u }, cc)
+
+-- Deleghe that may be dropped are.
+pub drops : (f numbers : List ℕ) → Droppable f numbers → droppingOf f numbers ≡ Dropped (length (shortened f numbers))
+unfolding droppingOf weighed
+drops f numbers m = rw (m .accepted, m .once, m .some)
+
+-- Any one delega of an accepted flow that has two or more is dropped.
+pub one-dropped : (f : List ℕ) (d : ℕ) → judged f .verdict ≡ Accepted → 2 ≤ judged f .summary .deleghe → 1 ≤ d → d ≤ judged f .summary .deleghe → droppingOf f (d ∷ []) ≡ Dropped (length (shortened f (d ∷ [])))
+unfolding eachOnce among
+one-dropped f d a two lo hi =
+    let n = judged f .summary .deleghe in
+    let e : eachOnce n (d ∷ []) ≡ true = rw (within 1 n d lo hi) in
+    drops f (d ∷ []) (record { accepted = a; once = e; some = ne-eqb (leftOf (d ∷ []) n) 0 (λ z. omega (arith, left-counted n (d ∷ []) e)) })

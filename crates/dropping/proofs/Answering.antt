@@ -7,7 +7,6 @@ use native.Mathlib.Omega.{arith}
 use borrow.Author.Tests.{eq-eqb, ne-eqb}
 use lib.Dec.{eqb}
 use lib.ListN.{length, take, drop, replicate}
-use lib.Seq.{take-at, drop-at}
 use Rattle.rules.specs.State.{startState}
 use Rattle.judge.specs.declared.Verdict.the-variants as Judge
 use Rattle.judge.specs.declared.Verdict.the-variants.{Accepted}
@@ -16,21 +15,12 @@ use Rattle.judge.specs.Plain.{Whole}
 use Rattle.rebalance.specs.Rebalance.{rebalanced, allFit, flat, refreshed}
 use Rattle.close.specs.Closing.{closedUp, spaced, eachOnce, leftOf}
 use Rattle.close.proofs.Counted.{left-counted}
+use Rattle.close.proofs.Spaces.{spaced-front, spaced-behind}
 use Rattle.dropping.specs.declared.Dropping.{Dropping}
 use Rattle.dropping.specs.declared.Dropping.the-variants.{Dropped, Refused}
 use Rattle.dropping.specs.Dropping.{shortened, weighed, droppingOf, flowBy, droppedFlow}
 use Rattle.dropping.specs.Inner.{Judged, Droppable}
 use Rattle.dropping.proofs.Shortened.{closed-whole, closed-fits, shortened-length}
-
--- Bytes with spaces behind them: the bytes, and the spaces.
-module _ (g : List ℕ) (n : ℕ) where
-  pub spaced-front : (k : ℕ) → length g ≡ k → take k (spaced g n) ≡ g
-  unfolding spaced
-  spaced-front k e = take-at g _ k e
-
-  pub spaced-behind : (k : ℕ) → length g ≡ k → drop k (spaced g n) ≡ replicate (n - k) 32
-  unfolding spaced
-  spaced-behind k e = drop-at g _ k e ∙ ap (λ (m : ℕ). replicate (n - m) 32) e
 
 -- A flow that is closed up, of which so many bytes are left.
 module _ (f numbers : List ℕ) (m : Droppable f numbers) (flow : List ℕ) (n : ℕ) (e : n ≡ length (closedUp numbers f)) (s : flow ≡ spaced (closedUp numbers f) (length f)) where

@@ -1,4 +1,4 @@
--- A flow from which deleghe are dropped: what stands in the lent room, and that it is accepted; a list that is refused changes nothing, and an empty one neither.
+-- A flow from which deleghe are dropped: what stands in the lent room, and that it is accepted; a refusal changes nothing; lists of more numbers than deleghe.
 use Prim.Native.Nat.{ℕ, _-_, _/_, _<_, _≤_}
 use mathlib.Core.Path.{_≡_, refl, sym, ap, _∙_}
 use mathlib.Core.List.{List, [], _∷_}
@@ -11,7 +11,6 @@ use Rattle.layout.specs.Kinds.{typeIn}
 use Rattle.judge.specs.declared.Verdict.{Verdict}
 use Rattle.judge.specs.declared.Verdict.the-variants as Judge
 use Rattle.judge.specs.declared.Verdict.the-variants.{Accepted}
-use Rattle.judge.specs.declared.Judgement.{Judgement}
 use Rattle.judge.specs.Flow.{recordsOf, judged}
 use Rattle.judge.specs.Plain.{sumOver, opens, tensIn}
 use Rattle.judge.proofs.Records.{length-chunks}
@@ -19,12 +18,12 @@ use Rattle.judge.proofs.Accepted.{accepted-means-no-fault}
 use Rattle.judge.proofs.Counts.{accepted-deleghe}
 use Rattle.close.specs.Closing.{spaced}
 use Rattle.close.proofs.Counted.{too-many}
+use Rattle.close.proofs.Spaces.{spaced-front, spaced-behind}
 use Rattle.dropping.specs.declared.Dropping.{Dropping}
 use Rattle.dropping.specs.declared.Dropping.the-variants.{Dropped, Refused}
 use Rattle.dropping.specs.Dropping.{shortened, weighed, droppingOf, droppedFlow}
 use Rattle.dropping.specs.Inner.{Droppable}
-use Rattle.dropping.proofs.Shortened.{closed-short, shortened-length, shortened-judged}
-use Rattle.dropping.proofs.Answering.{spaced-front, spaced-behind}
+use Rattle.dropping.proofs.Shortened.{closed-short, shortened-length, shortened-accepted}
 use Rattle.dropping.proofs.Answered.{droppable}
 
 -- "with nothing written": a refusal leaves every byte.
@@ -55,7 +54,7 @@ module _ (f numbers : List ℕ) {n : ℕ} (e : droppingOf f numbers ≡ Dropped 
 
   -- "The result is accepted."
   pub dropped-accepted : judged (take n (droppedFlow f numbers)) .verdict ≡ Accepted
-  dropped-accepted = ap (λ (g : List ℕ). judged g .verdict) (dropped-room .0) ∙ ap (λ (j : Judgement). j .verdict) (shortened-judged f numbers may)
+  dropped-accepted = ap (λ (g : List ℕ). judged g .verdict) (dropped-room .0) ∙ shortened-accepted f numbers may
 
 -- No flow has more than 546 deleghe, one for each record at most.
 opens-one : (t : RecordType) → opens t ≤ 1

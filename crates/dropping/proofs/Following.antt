@@ -1,5 +1,5 @@
 -- A flow and what is left of it, record by record: what their two states have in common.
-use Prim.Native.Nat.{ℕ, zero, suc, _+_, _≤_}
+use Prim.Native.Nat.{ℕ, _≤_}
 use mathlib.Core.Path.{_≡_, refl, sym, ap, _∙_}
 use mathlib.Core.Bool.{Bool, true, false, cond, false≢true}
 use mathlib.Core.List.{List, [], _∷_}
@@ -22,34 +22,7 @@ use Rattle.rules.specs.declared.State.{State}
 use Rattle.rules.specs.State.{startState}
 use Rattle.rules.specs.Step.{added, addedAt, nextDeleghe, nextMoney, nextOf}
 use Rattle.close.specs.Closing.{leftOf}
-
--- Of one delega more, one more is left where it is not named, and no more where it is.
-pub left-kept : (numbers : List ℕ) (d : ℕ) → among (d + 1) numbers ≡ false → leftOf numbers (d + 1) ≡ leftOf numbers d + 1
-unfolding leftOf
-left-kept numbers d e =
-    let s : d + 1 ≡ suc d = omega arith in
-    rw s (ap (λ (b : Bool). leftOf numbers d + cond b 0 1) (rw s at e))
-
-pub left-taken : (numbers : List ℕ) (d : ℕ) → among (d + 1) numbers ≡ true → leftOf numbers (d + 1) ≡ leftOf numbers d
-unfolding leftOf
-left-taken numbers d e =
-    let s : d + 1 ≡ suc d = omega arith in
-    rw s (ap (λ (b : Bool). leftOf numbers d + cond b 0 1) (rw s at e) ∙ omega arith)
-
--- Of no delega none is left.
-pub none-left : (numbers : List ℕ) → leftOf numbers 0 ≡ 0
-unfolding leftOf
-none-left numbers = refl
-
--- No more are left than there are.
-pub left-most : (numbers : List ℕ) (n : ℕ) → leftOf numbers n ≤ n
-unfolding leftOf
-left-most numbers zero = omega arith
-left-most numbers (suc n) = go (among (suc n) numbers) (left-most numbers n)
-  where
-    go : (b : Bool) → leftOf numbers n ≤ n → leftOf numbers n + cond b 0 1 ≤ suc n
-    go true h = omega arith
-    go false h = omega arith
+use Rattle.close.proofs.Counted.{left-kept, left-taken, none-left}
 
 -- A record that carries a number begins a delega, or stands within one.
 pub data Sort : Kind → Type 0 where

@@ -1,10 +1,10 @@
 -- A delega that is not named: its records are all there, in their order and under its new number, and its own summary is what it was.
-use Prim.Native.Nat.{ℕ, zero, suc, _+_, _<_, _≤_}
+use Prim.Native.Nat.{ℕ, _+_, _<_, _≤_}
 use mathlib.Core.Path.{_≡_, refl, sym, ap, _∙_}
 use mathlib.Core.Bool.{Bool, true, false, cond, false≢true}
 use mathlib.Core.List.{List, [], _∷_}
 use native.Mathlib.Omega.{arith}
-use native.Mathlib.Decide.{decLt, ℕ-discrete}
+use native.Mathlib.Decide.{ℕ-discrete}
 use borrow.Author.Tests.{eqb-true, eq-eqb, ne-eqb}
 use lib.Dec.{eqb}
 use lib.ListN.{getD}
@@ -14,8 +14,6 @@ use Rattle.layout.specs.declared.Kind.the-variants.{Head, Taxpayer, Domicile, L
 use Rattle.layout.specs.Kinds.{ofLine, ofBalance, kindIn, numbered}
 use Rattle.layout.specs.Fields.{delegaNumber, valueOf}
 use Rattle.rules.specs.State.{noSums}
-use Rattle.judge.specs.declared.Verdict.the-variants.{Accepted}
-use Rattle.judge.specs.declared.Judgement.{Judgement}
 use Rattle.judge.specs.Flow.{recordsOf, judged}
 use Rattle.judge.specs.Plain.{sumOver, Side, sideOf}
 use Rattle.delega.specs.OneDelega.{delegaOf}
@@ -26,39 +24,12 @@ use Rattle.close.specs.Closing.{stays, keptOf, leftOf}
 use Rattle.dropping.specs.Dropping.{shortened}
 use Rattle.dropping.specs.Inner.{Droppable}
 use Rattle.dropping.specs.Effect.{Stayed, EachStayed, recordsWith}
-use Rattle.dropping.proofs.Following.{left-kept}
+use Rattle.close.proofs.Counted.{left-grows, left-rises, left-apart}
 use Rattle.dropping.proofs.Stayed.{stayed-kind}
 use Rattle.dropping.proofs.Parts.{stayed-sum}
-use Rattle.dropping.proofs.Shortened.{shortened-judged, shortened-stayed}
+use Rattle.dropping.proofs.Shortened.{shortened-accepted, shortened-stayed}
 use Rattle.dropping.proofs.Sums.{inSection, inFinals, inLines, line-numbered, payment-numbered, stayed-lines, stayed-finals, stayed-section}
 use Rattle.dropping.proofs.Numbers.{deleghe-left}
-
--- The more deleghe, the more are left, or as many.
-left-grows : (numbers : List ℕ) (m n : ℕ) → m ≤ n → leftOf numbers m ≤ leftOf numbers n
-unfolding leftOf
-left-grows numbers m zero h = let e : m ≡ 0 = omega arith in rw e (omega arith)
-left-grows numbers m (suc n) h = go (ℕ-discrete m (suc n)) (λ k. left-grows numbers m n k)
-  where
-    go : Dec (m ≡ suc n) → (m ≤ n → leftOf numbers m ≤ leftOf numbers n) → leftOf numbers m ≤ leftOf numbers n + cond (among (suc n) numbers) 0 1
-    go (yes e) k = let z : leftOf numbers m ≡ leftOf numbers n + cond (among (suc n) numbers) 0 1 = ap (leftOf numbers) e in omega arith
-    go (no e) k = omega (arith, k (omega arith))
-
--- Up to a delega that is not named more are left than up to one before it.
-left-before : (numbers : List ℕ) (m n : ℕ) → m < n → among n numbers ≡ false → leftOf numbers m < leftOf numbers n
-left-before numbers m zero h a = absurd (omega arith)
-left-before numbers m (suc n) h a =
-    let s : suc n ≡ n + 1 = omega arith in
-    let k = left-kept numbers n (rw s at a) in
-    rw s (omega (arith, left-grows numbers m n (omega arith)))
-
--- So two of these have one number only where they are one.
-left-apart : (numbers : List ℕ) (m n : ℕ) → among m numbers ≡ false → among n numbers ≡ false → leftOf numbers m ≡ leftOf numbers n → m ≡ n
-left-apart numbers m n a b e = go (decLt m n) (decLt n m)
-  where
-    go : Dec (m < n) → Dec (n < m) → m ≡ n
-    go (yes h) k = absurd (omega (arith, left-before numbers m n h b))
-    go (no h) (yes k) = absurd (omega (arith, left-before numbers n m k a))
-    go (no h) (no k) = omega arith
 
 -- Every record of a list stays.
 abbrev AllStay : List ℕ → List (List ℕ) → Type 0
@@ -161,24 +132,21 @@ module _ (f numbers : List ℕ) (m : Droppable f numbers) (d : ℕ) (lo : 1 ≤ 
 
   -- Its new number is that of a delega of what is left.
   from : 1 ≤ leftOf numbers d
-  from = omega (arith, left-before numbers 0 d lo a)
+  from = omega (arith, left-rises numbers 0 d lo a)
 
   to : leftOf numbers d ≤ judged (shortened f numbers) .summary .deleghe
   to = omega (arith, left-grows numbers d (judged f .summary .deleghe) hi, deleghe-left f numbers m)
 
-  accepted-after : judged (shortened f numbers) .verdict ≡ Accepted
-  accepted-after = ap (λ (j : Judgement). j .verdict) (shortened-judged f numbers m)
-
   -- Its final balance, its lines, its section sums, and the sections that it uses are what they were.
   pub balance-kept : delegaOf (shortened f numbers) (leftOf numbers d) .balance ≡ delegaOf f d .balance
-  balance-kept = delega-balance g (leftOf numbers d) accepted-after from to ∙ (same-sum inFinals (stayed-finals numbers) (λ r n. payment-numbered (kindIn r) _ n) ∙ sym (delega-balance f d (m .accepted) lo hi))
+  balance-kept = delega-balance g (leftOf numbers d) (shortened-accepted f numbers m) from to ∙ (same-sum inFinals (stayed-finals numbers) (λ r n. payment-numbered (kindIn r) _ n) ∙ sym (delega-balance f d (m .accepted) lo hi))
 
   pub lines-kept : delegaOf (shortened f numbers) (leftOf numbers d) .lines ≡ delegaOf f d .lines
-  lines-kept = delega-lines g (leftOf numbers d) accepted-after from to ∙ (same-sum inLines (stayed-lines numbers) (λ r n. line-numbered (kindIn r) _ n) ∙ sym (delega-lines f d (m .accepted) lo hi))
+  lines-kept = delega-lines g (leftOf numbers d) (shortened-accepted f numbers m) from to ∙ (same-sum inLines (stayed-lines numbers) (λ r n. line-numbered (kindIn r) _ n) ∙ sym (delega-lines f d (m .accepted) lo hi))
 
   pub section-kept : (x : Side) (i : ℕ) → i < 5 → sideOf x (getD (delegaOf (shortened f numbers) (leftOf numbers d) .sums) i noSums) ≡ sideOf x (getD (delegaOf f d .sums) i noSums)
   section-kept x i h =
-      delega-section-sums g (leftOf numbers d) accepted-after from to x i h
+      delega-section-sums g (leftOf numbers d) (shortened-accepted f numbers m) from to x i h
       ∙ (same-sum (inSection x i) (λ r q s. stayed-section numbers r q s x i h) (λ r n. line-numbered (kindIn r) _ n) ∙ sym (delega-section-sums f d (m .accepted) lo hi x i h))
 
   uses : (i : ℕ) → sectionCountOf (leftOf numbers d) i (recordsOf (shortened f numbers)) ≡ sectionCountOf d i (recordsOf f)
@@ -186,9 +154,9 @@ module _ (f numbers : List ℕ) (m : Droppable f numbers) (d : ℕ) (lo : 1 ≤ 
 
   pub set-kept : delegaOf (shortened f numbers) (leftOf numbers d) .set ≡ delegaOf f d .set
   set-kept =
-      delega-set-added g (leftOf numbers d) accepted-after from to ∙ (rw (uses 0, uses 1, uses 2, uses 3, uses 4) refl ∙ sym (delega-set-added f d (m .accepted) lo hi))
+      delega-set-added g (leftOf numbers d) (shortened-accepted f numbers m) from to ∙ (rw (uses 0, uses 1, uses 2, uses 3, uses 4) refl ∙ sym (delega-set-added f d (m .accepted) lo hi))
 
   pub size-kept : delegaOf (shortened f numbers) (leftOf numbers d) .size ≡ delegaOf f d .size
   size-kept =
-      delega-size g (leftOf numbers d) accepted-after from to
+      delega-size g (leftOf numbers d) (shortened-accepted f numbers m) from to
       ∙ (same-sum (λ r. ofBalance 0 (λ s. 1) (kindIn r)) (λ r q s. ap (ofBalance 0 (λ i. 1)) (stayed-kind s)) (λ r n. balance-numbered (kindIn r) _ n) ∙ sym (delega-size f d (m .accepted) lo hi))

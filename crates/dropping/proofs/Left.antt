@@ -14,7 +14,7 @@ use Rattle.text.proofs.Bytes.{part-length}
 use Rattle.text.proofs.Numerals.{number-below}
 use Rattle.text.proofs.Tests.{both-true}
 use Rattle.layout.specs.declared.Kind.{Kind}
-use Rattle.layout.specs.declared.Kind.the-variants.{Head, Taxpayer, Domicile, Line, Balance, Payment, Receipt, Addressee, Tail, Unknown}
+use Rattle.layout.specs.declared.Kind.the-variants.{Head, Taxpayer, Tail}
 use Rattle.layout.specs.Kinds.{typeIn, kindIn, numbered}
 use Rattle.layout.specs.Fields.{delegaNumber, tailDeleghe, tailSum, tailRecords, fieldsOf, bytesOf, valueOf}
 use Rattle.amounts.specs.declared.Outcome.the-variants.{Pass}
@@ -26,100 +26,19 @@ use Rattle.rules.specs.declared.State.{State}
 use Rattle.rules.specs.Stored.{storedOf}
 use Rattle.rules.specs.Checks.{charFault, badFields, numberFault, ownFault, fault}
 use Rattle.rules.specs.Step.{nextDeleghe, lineSums, next}
-use Rattle.rules.proofs.Numbers.{numbered-fault}
 use Rattle.judge.specs.Plain.{stateAfter, NoFault}
-use Rattle.judge.proofs.Accepted.{right-of, carried-number}
+use Rattle.judge.proofs.Accepted.{right-of}
 use Rattle.rebalance.specs.Numbering.{withNumber}
 use Rattle.rebalance.specs.Rebalance.{emit, rebalanced, fitsAll, keptFault, Sized, Mendable}
 use Rattle.rebalance.proofs.Outside.{outside, swapped, covers-clear}
 use Rattle.rebalance.proofs.Emit.{kept-each, kept-all, emit-length, emit-plain, emit-outside, fault-kept, fault-fits, emit-own}
 use Rattle.rebalance.proofs.Numbered.{length-number, number-said, number-byte}
 use Rattle.close.specs.Closing.{stays, keptOf, renumbered, leftOf}
-use Rattle.dropping.specs.Effect.{renewed, Stayed, EachStayed}
+use Rattle.close.proofs.Counted.{left-most}
+use Rattle.dropping.specs.Effect.{Stayed, EachStayed}
+use Rattle.dropping.proofs.OneRecord.{none-after-tail, stored-by, own-by, renewed-number, carries-number, next-deleghe, tail-phase, unnumbered-stays, unnumbered-same}
 use Rattle.dropping.proofs.NewNumber.{renewed-kind, renewed-next, renewed-passes}
-use Rattle.dropping.proofs.Following.{left-most, Sort, head, opening, inside, tail, none, sort, Place, Open, Gone, Follows, closed-taxpayer, closed-tail, kept-on, taken-on}
-
--- After EF no record may stand.
-nothing-stands : (p : Stage) (k : Kind) → p .phase ≡ afterTail → stands p k ≡ true → ⊥
-unfolding stands among
-nothing-stands p Head z e = false≢true (rw z at e)
-nothing-stands p Taxpayer z e = false≢true (rw z at e)
-nothing-stands p Domicile z e = false≢true (rw z at e)
-nothing-stands p (Line s) z e = false≢true (rw z at e)
-nothing-stands p (Balance s) z e = false≢true (rw z at e)
-nothing-stands p Payment z e = false≢true (rw z at e)
-nothing-stands p Receipt z e = false≢true (rw z at e)
-nothing-stands p Addressee z e = false≢true (rw z at e)
-nothing-stands p Tail z e = false≢true (rw z at e)
-nothing-stands p Unknown z e = false≢true e
-
-none-after-tail : (name : List ℕ) (st : State) (rs : List (List ℕ)) → st .stage .phase ≡ afterTail → NoFault name st rs → rs ≡ []
-none-after-tail name st [] z h = refl
-none-after-tail name st (r ∷ rs) z h = absurd (nothing-stands (st .stage) (kindIn r) z (right-of name st r (h .0) .ordered))
-
--- What a record of a delega stores, and what is its own to check, follow from the sums of the open delega.
-stored-by : (st on : State) (k : Kind) → on .money .delega ≡ st .money .delega → numbered k ≡ true → storedOf on k ≡ storedOf st k
-unfolding numbered
-stored-by st on Head e n = refl
-stored-by st on Taxpayer e n = refl
-stored-by st on Domicile e n = refl
-stored-by st on (Line s) e n = refl
-stored-by st on (Balance s) e n = rw e
-stored-by st on Payment e n = rw e
-stored-by st on Receipt e n = refl
-stored-by st on Addressee e n = refl
-stored-by st on Tail e n = absurd (false≢true n)
-stored-by st on Unknown e n = refl
-
-own-by : (name : List ℕ) (st on : State) (k : Kind) (r : List ℕ) → on .money .delega ≡ st .money .delega → ownFault name on k r ≡ ownFault name st k r
-own-by name st on Head r e = refl
-own-by name st on Taxpayer r e = refl
-own-by name st on Domicile r e = refl
-own-by name st on (Line s) r e = refl
-own-by name st on (Balance s) r e = refl
-own-by name st on Payment r e = rw e
-own-by name st on Receipt r e = refl
-own-by name st on Addressee r e = refl
-own-by name st on Tail r e = refl
-own-by name st on Unknown r e = refl
-
--- A record that carries a number may differ there.
-pub renewed-number : (k : Kind) → numbered k ≡ true → renewed k ≡ delegaNumber ∷ []
-unfolding numbered
-renewed-number Head n = absurd (false≢true n)
-renewed-number Taxpayer n = refl
-renewed-number Domicile n = refl
-renewed-number (Line s) n = refl
-renewed-number (Balance s) n = refl
-renewed-number Payment n = refl
-renewed-number Receipt n = refl
-renewed-number Addressee n = refl
-renewed-number Tail n = absurd (false≢true n)
-renewed-number Unknown n = absurd (false≢true n)
-
--- A record that passes carries the number of its delega.
-pub carries-number : (name : List ℕ) (st : State) (r : List ℕ) → fault name st r ≡ Pass → numbered (kindIn r) ≡ true → valueOf r delegaNumber ≡ nextDeleghe (st .deleghe) (kindIn r)
-carries-number name st r p n = carried-number _ _ (sym (numbered-fault (st .deleghe) (kindIn r) (valueOf r delegaNumber) n) ∙ right-of name st r p .numbered)
-
--- The deleghe after a record.
-pub next-deleghe : (st : State) (r : List ℕ) → next st r .deleghe ≡ nextDeleghe (st .deleghe) (kindIn r)
-unfolding next
-next-deleghe st r = refl
-
--- After EF the phase is that after the tail.
-tail-phase : (st : State) (r : List ℕ) → kindIn r ≡ Tail → next st r .stage .phase ≡ afterTail
-unfolding next
-tail-phase st r e = rw e
-
--- A record that carries no number stays, and as it is.
-module _ (r : List ℕ) (n : numbered (kindIn r) ≡ false) where
-  pub unnumbered-stays : (numbers : List ℕ) → stays numbers r ≡ true
-  unfolding stays
-  unnumbered-stays numbers = rw n
-
-  pub unnumbered-same : (d : ℕ) → withNumber (kindIn r) d r ≡ r
-  unfolding withNumber
-  unnumbered-same d = rw n
+use Rattle.dropping.proofs.Following.{Sort, head, opening, inside, tail, none, sort, Place, Open, Gone, Follows, closed-taxpayer, closed-tail, kept-on, taken-on}
 
 -- A list of numbers, and the name in the head.
 module _ (numbers name : List ℕ) where

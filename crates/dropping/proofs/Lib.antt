@@ -1,6 +1,7 @@
 pub mod OtherNumber
 pub mod NewNumber
 pub mod Following
+pub mod OneRecord
 pub mod Left
 pub mod Shortened
 pub mod Answering
@@ -16,5 +17,6 @@ pub mod Again
 pub mod OneByOne
 pub mod KeptDeleghe
 pub mod BeforeAndAfter
+pub mod WhatIsLeft
 pub mod OneAnswer
 pub mod Refusals

@@ -41,7 +41,7 @@ moved-left d n lo h = go (decLt d n)
     go (no p) = left-before d [] n (omega arith) ∙ (left-all n ∙ sym (moved-before d n (omega arith)))
 
 -- A number that is not among others is none of them.
-not-among : (d x : ℕ) (xs : List ℕ) → among d (x ∷ xs) ≡ false → (d ≡ x → ⊥) × (among d xs ≡ false)
+pub not-among : (d x : ℕ) (xs : List ℕ) → among d (x ∷ xs) ≡ false → (d ≡ x → ⊥) × (among d xs ≡ false)
 unfolding among
 not-among d x xs a = go (eqb d x) refl a
   where
@@ -49,6 +49,7 @@ not-among d x xs a = go (eqb d x) refl a
     go true q f = absurd (false≢true (sym f))
     go false q f = (eqb-false d x q, f)
 
+-- Two deleghe that are left have the same new number where they have the same old one.
 same-number : (d n x : ℕ) → (n ≡ d → ⊥) → (x ≡ d → ⊥) → eqb (moved d n) (moved d x) ≡ eqb n x
 same-number d n x h g = go (ℕ-discrete n x)
   where

@@ -1,4 +1,4 @@
--- A record with another number after another state: it passes every check there, and is its own rebalancing.
+-- A record with another number after another state: its kind, what it leads to, and that it passes every check there.
 use Prim.Native.Nat.{ℕ, _<_}
 use mathlib.Core.Path.{_≡_, refl, ap, _∙_}
 use mathlib.Core.Bool.{Bool, true, false, cond}

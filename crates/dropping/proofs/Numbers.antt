@@ -14,7 +14,6 @@ use Rattle.rules.specs.declared.State.{State}
 use Rattle.rules.specs.State.{startState}
 use Rattle.rules.specs.Checks.{fault}
 use Rattle.rules.specs.Step.{nextDeleghe, next}
-use Rattle.judge.specs.declared.Verdict.the-variants.{Accepted}
 use Rattle.judge.specs.declared.Judgement.{Judgement}
 use Rattle.judge.specs.Flow.{recordsOf, headNameOf, judged}
 use Rattle.judge.specs.Plain.{sumOver, opens, tensIn, stateAfter, NoFault}
@@ -22,15 +21,15 @@ use Rattle.judge.proofs.Records.{length-chunks}
 use Rattle.judge.proofs.Accepted.{accepted-means-no-fault, sound-judged}
 use Rattle.judge.proofs.Counts.{deleghe-after, accepted-deleghe, accepted-records}
 use Rattle.close.specs.Closing.{stays, keptOf, leftOf}
-use Rattle.close.proofs.Counted.{left-counted}
+use Rattle.close.proofs.Counted.{left-kept, left-taken, none-left, left-counted}
 use Rattle.dropping.specs.Dropping.{shortened}
 use Rattle.dropping.specs.Inner.{Droppable}
 use Rattle.dropping.specs.Effect.{sumFor, recordCountOf}
-use Rattle.dropping.proofs.Following.{left-kept, left-taken, none-left, Sort, head, opening, inside, tail, none, sort}
-use Rattle.dropping.proofs.Left.{next-deleghe, carries-number}
+use Rattle.dropping.proofs.Following.{Sort, head, opening, inside, tail, none, sort}
+use Rattle.dropping.proofs.OneRecord.{next-deleghe, carries-number}
 use Rattle.dropping.proofs.Stayed.{stayed-type}
 use Rattle.dropping.proofs.Parts.{over-same, stays-or-goes, goes-by-delega, stayed-sum}
-use Rattle.dropping.proofs.Shortened.{shortened-judged, shortened-stayed}
+use Rattle.dropping.proofs.Shortened.{shortened-accepted, shortened-stayed}
 
 -- What a record counts among those that stay.
 tens-kept : (numbers r : List ℕ) (rs : List (List ℕ)) → tensIn (keptOf numbers (r ∷ rs)) ≡ cond (stays numbers r) (opens (typeIn r)) 0 + tensIn (keptOf numbers rs)
@@ -41,6 +40,7 @@ tens-kept numbers r rs = go (stays numbers r)
     go true = refl
     go false = omega arith
 
+-- What counts nothing counts nothing, whether it stays or goes.
 none-counts : (b : Bool) (n : ℕ) → n ≡ 0 → cond b n 0 ≡ 0
 none-counts true n e = e
 none-counts false n e = refl
@@ -63,6 +63,7 @@ only-numbered numbers r = go (numbered (kindIn r)) (among (valueOf r delegaNumbe
 
 -- Of records without a fault, after a state: the deleghe that are left.
 module _ (numbers name : List ℕ) where
+  -- One record, and those behind it.
   step-left : (st : State) (r : List ℕ) (rs : List (List ℕ)) → fault name st r ≡ Pass → leftOf numbers (next st r .deleghe) + tensIn (keptOf numbers rs) ≡ leftOf numbers (stateAfter (next st r) rs .deleghe) →
       leftOf numbers (st .deleghe) + tensIn (keptOf numbers (r ∷ rs)) ≡ leftOf numbers (stateAfter (next st r) rs .deleghe)
   unfolding stateAfter sumOver stays numbered
@@ -93,6 +94,7 @@ module _ (numbers name : List ℕ) where
       go tail e = still (next-deleghe st r ∙ rw e)
       go none e = still (next-deleghe st r ∙ rw e)
 
+  -- All records.
   tens-left : (st : State) (rs : List (List ℕ)) → NoFault name st rs → leftOf numbers (st .deleghe) + tensIn (keptOf numbers rs) ≡ leftOf numbers (stateAfter st rs .deleghe)
   unfolding stateAfter sumOver keptOf
   tens-left st [] h = omega arith
@@ -103,9 +105,6 @@ module _ (f numbers : List ℕ) (m : Droppable f numbers) where
   abbrev n : ℕ
   n = judged f .summary .deleghe
 
-  accepted-after : judged (shortened f numbers) .verdict ≡ Accepted
-  accepted-after = ap (λ (j : Judgement). j .verdict) (shortened-judged f numbers m)
-
   -- Its deleghe that are not named are left.
   pub deleghe-left : judged (shortened f numbers) .summary .deleghe ≡ leftOf numbers (judged f .summary .deleghe)
   unfolding startState
@@ -114,7 +113,7 @@ module _ (f numbers : List ℕ) (m : Droppable f numbers) where
       let t = tens-left numbers (headNameOf f) startState (recordsOf f) (h .passes) in
       let s = ap (λ (j : Judgement). leftOf numbers (j .summary .deleghe)) (sound-judged f h) in
       let k = stayed-sum numbers (λ r. opens (typeIn r)) (λ r q w. ap opens (stayed-type w)) (keptOf numbers (recordsOf f)) (recordsOf (shortened f numbers)) (shortened-stayed f numbers m) in
-      omega (arith, accepted-deleghe (shortened f numbers) accepted-after, none-left numbers)
+      omega (arith, accepted-deleghe (shortened f numbers) (shortened-accepted f numbers m), none-left numbers)
 
   -- There are as many less as are named.
   pub deleghe-before : judged f .summary .deleghe ≡ judged (shortened f numbers) .summary .deleghe + length numbers
@@ -129,4 +128,4 @@ module _ (f numbers : List ℕ) (m : Droppable f numbers) where
       let b = stayed-sum numbers h (λ r q w. refl) (keptOf numbers (recordsOf f)) (recordsOf (shortened f numbers)) (shortened-stayed f numbers m) in
       let c = over-same (recordsOf f) (λ r. cond (stays numbers r) 0 1) (λ r. cond (stays numbers r) 0 (own r)) (λ r. only-numbered numbers r) in
       let d = goes-by-delega n numbers (m .once) own (λ r e. ap (λ (t : Bool). cond t 1 0) e) (recordsOf f) in
-      omega (arith, accepted-records f (m .accepted), accepted-records (shortened f numbers) accepted-after, each-counts (recordsOf f), each-counts (recordsOf (shortened f numbers)), length-chunks (length f / 120) f, length-chunks (length (shortened f numbers) / 120) (shortened f numbers))
+      omega (arith, accepted-records f (m .accepted), accepted-records (shortened f numbers) (shortened-accepted f numbers m), each-counts (recordsOf f), each-counts (recordsOf (shortened f numbers)), length-chunks (length f / 120) f, length-chunks (length (shortened f numbers) / 120) (shortened f numbers))

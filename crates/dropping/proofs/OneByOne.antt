@@ -11,21 +11,20 @@ use Rattle.text.specs.Among.{among}
 use Rattle.layout.specs.Kinds.{kindIn, numbered}
 use Rattle.layout.specs.Fields.{delegaNumber, valueOf}
 use Rattle.rules.specs.State.{startState}
-use Rattle.judge.specs.declared.Judgement.{Judgement}
 use Rattle.judge.specs.Flow.{recordsOf, judged}
 use Rattle.rebalance.specs.Rebalance.{rebalanced, flat, refreshed}
 use Rattle.close.specs.Closing.{stays, keptOf, leftOf}
 use Rattle.close.proofs.Counted.{once-parts, left-counted}
 use Rattle.dropping.specs.declared.Dropping.the-variants.{Dropped}
-use Rattle.dropping.specs.Dropping.{shortened, weighed, droppingOf, droppedFlow}
+use Rattle.dropping.specs.Dropping.{shortened, droppingOf, droppedFlow}
 use Rattle.dropping.specs.Inner.{Droppable}
 use Rattle.dropping.specs.Effect.{Stayed, EachStayed, moved, OneByOne, Ended, Next}
 use Rattle.dropping.proofs.Stayed.{stayed-kind}
 use Rattle.dropping.proofs.Moved.{moved-left, moved-among, moved-once, first-once, first-left, others-left}
 use Rattle.dropping.proofs.Again.{all-again}
-use Rattle.dropping.proofs.Shortened.{records-closed, shortened-judged, shortened-stayed}
+use Rattle.dropping.proofs.Shortened.{records-closed, shortened-accepted, shortened-stayed}
 use Rattle.dropping.proofs.Numbers.{deleghe-left}
-use Rattle.dropping.proofs.Answered.{droppable}
+use Rattle.dropping.proofs.Answered.{drops, droppable}
 use Rattle.dropping.proofs.Dropped.{dropped-room}
 use Rattle.dropping.proofs.Unchanged.{shortened-none}
 
@@ -102,7 +101,7 @@ module _ (f : List ℕ) (d : ℕ) (ds : List ℕ) (m : Droppable f (d ∷ ds)) w
   others-droppable =
       let p = once-parts n d ds (m .once) in
       record {
-        accepted = ap (λ (j : Judgement). j .verdict) (shortened-judged f (d ∷ []) first-droppable);
+        accepted = shortened-accepted f (d ∷ []) first-droppable;
         once = rw one-less (moved-once n d ds (p .0 .0) (p .0 .1) (p .1) (p .2));
         some = rw (one-less, others-left n d ds (m .once)) (m .some);
       }
@@ -116,11 +115,6 @@ module _ (f : List ℕ) (d : ℕ) (ds : List ℕ) (m : Droppable f (d ∷ ds)) w
       ap (λ (rs : List (List ℕ)). flat (rebalanced startState rs)) (records-closed (shortened f (d ∷ [])) (map (moved d) ds) others-droppable)
       ∙ (ap flat (all-again (d ∷ []) startState 0 (keptOf (d ∷ ds) (recordsOf f)) (keptOf (map (moved d) ds) (recordsOf (shortened f (d ∷ [])))) s)
       ∙ sym (ap (λ (rs : List (List ℕ)). flat (rebalanced startState rs)) (records-closed f (d ∷ ds) m)))
-
--- Deleghe that may be dropped are.
-drops : (f numbers : List ℕ) → Droppable f numbers → droppingOf f numbers ≡ Dropped (length (shortened f numbers))
-unfolding droppingOf weighed
-drops f numbers m = rw (m .accepted, m .once, m .some)
 
 -- So one after the other, by so many calls as there are numbers.
 steps : (k : ℕ) (f numbers : List ℕ) → length numbers ≡ k → Droppable f numbers → OneByOne f numbers (shortened f numbers)

@@ -81,6 +81,7 @@ by-number n (d ∷ ds) e r m = let p = once-parts n d ds e in go (eqb (valueOf r
 
 -- What goes, delega by delega, where a record that carries no number counts nothing.
 module _ (n : ℕ) (numbers : List ℕ) (e : eachOnce n numbers ≡ true) (g : List ℕ → ℕ) (z : (r : List ℕ) → numbered (kindIn r) ≡ false → g r ≡ 0) where
+  -- One record.
   one-gone : (r : List ℕ) → cond (stays numbers r) 0 (g r) ≡ sumFor (λ d. ofDelega d r (g r)) numbers
   unfolding stays
   one-gone r = go (numbered (kindIn r)) refl

@@ -11,6 +11,7 @@ use Rattle.layout.specs.declared.Kind.the-variants.{Head}
 use Rattle.layout.specs.Kinds.{kindIn, numbered}
 use Rattle.rules.specs.State.{startState}
 use Rattle.rules.specs.Step.{nextDeleghe}
+use Rattle.judge.specs.declared.Verdict.the-variants.{Accepted}
 use Rattle.judge.specs.declared.Judgement.{Judgement}
 use Rattle.judge.specs.Flow.{acceptedWith, recordsOf, headNameOf, judged}
 use Rattle.judge.specs.Plain.{stateAfter, NoFault, Whole, Sound}
@@ -26,7 +27,8 @@ use Rattle.dropping.specs.Dropping.{shortened}
 use Rattle.dropping.specs.Inner.{Droppable}
 use Rattle.dropping.specs.Effect.{EachStayed}
 use Rattle.dropping.proofs.Following.{follows-start}
-use Rattle.dropping.proofs.Left.{left-mends, unnumbered-stays, unnumbered-same}
+use Rattle.dropping.proofs.OneRecord.{unnumbered-stays, unnumbered-same}
+use Rattle.dropping.proofs.Left.{left-mends}
 
 -- A list that names each delega once names no delega 0.
 once-zero : (n : ℕ) (numbers : List ℕ) → eachOnce n numbers ≡ true → among 0 numbers ≡ false
@@ -125,6 +127,9 @@ module _ (f numbers : List ℕ) (m : Droppable f numbers) where
   pub shortened-judged : judged (shortened f numbers) ≡ acceptedWith (stateAfter startState (renumbered 0 (keptOf numbers (recordsOf f))))
   unfolding shortened refreshed
   shortened-judged = judged-rebalanced (closedUp numbers f) closed-whole closed-mends ∙ ap (λ (rs : List (List ℕ)). acceptedWith (stateAfter startState rs)) records-closed
+
+  pub shortened-accepted : judged (shortened f numbers) .verdict ≡ Accepted
+  shortened-accepted = ap (λ (j : Judgement). j .verdict) shortened-judged
 
   -- It is as long as what is closed up.
   pub shortened-length : length (shortened f numbers) ≡ length (closedUp numbers f)

@@ -17,7 +17,7 @@ use Rattle.layout.specs.Kinds.{typeOf, kindOf, typeIn, kindIn, numbered}
 use Rattle.layout.specs.Fields.{delegaNumber, valueOf, inColumns}
 use Rattle.rebalance.proofs.Outside.{off-all}
 use Rattle.dropping.specs.Effect.{renewed, Stayed}
-use Rattle.dropping.proofs.Left.{renewed-number}
+use Rattle.dropping.proofs.OneRecord.{renewed-number}
 
 -- Type and subtype stand outside the columns in which a record may differ.
 kind-outside : (k : Kind) → (inColumns 1 (renewed k) ≡ false) × (inColumns 2 (renewed k) ≡ false) × (inColumns 10 (renewed k) ≡ false) × (inColumns 11 (renewed k) ≡ false)

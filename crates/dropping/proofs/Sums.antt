@@ -1,4 +1,4 @@
--- "The sum of final balances before equals that after plus those dropped, and so for each section's sums": and so for lines, records and deleghe.
+-- "The sum of final balances before equals that after plus those dropped, and so for each section's sums"; and so for the lines.
 use Prim.Native.Nat.{ℕ, _+_, _<_}
 use mathlib.Core.Path.{_≡_, refl, sym, ap, ap₂, _∙_}
 use mathlib.Core.Bool.{Bool, true, false, cond, false≢true}
@@ -12,8 +12,6 @@ use Rattle.layout.specs.Kinds.{ofLine, ofPayment, kindIn, numbered}
 use Rattle.layout.specs.Fields.{finalBalance, valueOf}
 use Rattle.layout.proofs.Table.{row-rule}
 use Rattle.rules.specs.State.{noSums}
-use Rattle.judge.specs.declared.Verdict.the-variants.{Accepted}
-use Rattle.judge.specs.declared.Judgement.{Judgement}
 use Rattle.judge.specs.Flow.{recordsOf, judged}
 use Rattle.judge.specs.Plain.{sumOver, Side, Debit, Credit, sideOf, columnOf}
 use Rattle.judge.proofs.Counts.{accepted-lines}
@@ -27,7 +25,7 @@ use Rattle.dropping.specs.Inner.{Droppable}
 use Rattle.dropping.specs.Effect.{Stayed, sumFor}
 use Rattle.dropping.proofs.Stayed.{stayed-kind, stayed-value}
 use Rattle.dropping.proofs.Parts.{sum-same, stays-or-goes, goes-by-delega, stayed-sum}
-use Rattle.dropping.proofs.Shortened.{shortened-judged, shortened-stayed}
+use Rattle.dropping.proofs.Shortened.{shortened-accepted, shortened-stayed}
 
 -- A record that is neither a line nor a 50-01 counts nothing; both carry a number.
 pub line-numbered : (k : Kind) (f : ℕ → ℕ) → numbered k ≡ false → ofLine 0 f k ≡ 0
@@ -68,6 +66,7 @@ inLines r = ofLine 0 (λ s. 1) (kindIn r)
 
 -- A record that stayed adds the same.
 module _ (numbers r q : List ℕ) (s : Stayed numbers r q) where
+  -- What holds where it carries a number and where it carries none holds.
   by-numbered : (f g : ℕ) → (numbered (kindIn r) ≡ true → f ≡ g) → (numbered (kindIn r) ≡ false → f ≡ g) → f ≡ g
   by-numbered f g a b = go (numbered (kindIn r)) a b
     where
@@ -104,26 +103,23 @@ module _ (f numbers : List ℕ) (m : Droppable f numbers) where
       stays-or-goes numbers h (recordsOf f)
       ∙ ap₂ _+_ (sym (stayed-sum numbers h same _ _ (shortened-stayed f numbers m))) (goes-by-delega _ numbers (m .once) h none (recordsOf f))
 
-  accepted-after : judged (shortened f numbers) .verdict ≡ Accepted
-  accepted-after = ap (λ (j : Judgement). j .verdict) (shortened-judged f numbers m)
-
   -- The sum of final balances.
   pub total-before : judged f .summary .total ≡ judged (shortened f numbers) .summary .total + sumFor (λ d. delegaOf f d .balance) numbers
   total-before =
       accepted-total-finals f (m .accepted)
       ∙ (before-after inFinals (stayed-finals numbers) (λ r n. payment-numbered (kindIn r) _ n)
-      ∙ ap₂ _+_ (sym (accepted-total-finals g accepted-after)) (sum-same _ numbers (m .once) (λ d. finalsOf d (recordsOf f)) _ (λ d lo hi. sym (delega-balance f d (m .accepted) lo hi))))
+      ∙ ap₂ _+_ (sym (accepted-total-finals g (shortened-accepted f numbers m))) (sum-same _ numbers (m .once) (λ d. finalsOf d (recordsOf f)) _ (λ d lo hi. sym (delega-balance f d (m .accepted) lo hi))))
 
   -- Each section's debits and credits.
   pub section-before : (x : Side) (i : ℕ) → i < 5 → sideOf x (getD (judged f .summary .sums) i noSums) ≡ sideOf x (getD (judged (shortened f numbers) .summary .sums) i noSums) + sumFor (λ d. sideOf x (getD (delegaOf f d .sums) i noSums)) numbers
   section-before x i h =
       accepted-section-sums f (m .accepted) x i h
       ∙ (before-after (inSection x i) (λ r q s. stayed-section numbers r q s x i h) (λ r n. line-numbered (kindIn r) _ n)
-      ∙ ap₂ _+_ (sym (accepted-section-sums g accepted-after x i h)) (sum-same _ numbers (m .once) (λ d. sectionOf d x i (recordsOf f)) _ (λ d lo hi. sym (delega-section-sums f d (m .accepted) lo hi x i h))))
+      ∙ ap₂ _+_ (sym (accepted-section-sums g (shortened-accepted f numbers m) x i h)) (sum-same _ numbers (m .once) (λ d. sectionOf d x i (recordsOf f)) _ (λ d lo hi. sym (delega-section-sums f d (m .accepted) lo hi x i h))))
 
   -- The lines.
   pub lines-before : judged f .summary .lines ≡ judged (shortened f numbers) .summary .lines + sumFor (λ d. delegaOf f d .lines) numbers
   lines-before =
       accepted-lines f (m .accepted)
       ∙ (before-after inLines (stayed-lines numbers) (λ r n. line-numbered (kindIn r) _ n)
-      ∙ ap₂ _+_ (sym (accepted-lines g accepted-after)) (sum-same _ numbers (m .once) (λ d. lineCountOf d (recordsOf f)) _ (λ d lo hi. sym (delega-lines f d (m .accepted) lo hi))))
+      ∙ ap₂ _+_ (sym (accepted-lines g (shortened-accepted f numbers m))) (sum-same _ numbers (m .once) (λ d. lineCountOf d (recordsOf f)) _ (λ d lo hi. sym (delega-lines f d (m .accepted) lo hi))))

@@ -32,9 +32,9 @@ use Rattle.close.proofs.Counted.{left-all}
 use Rattle.dropping.specs.declared.Dropping.the-variants.{Dropped}
 use Rattle.dropping.specs.Dropping.{shortened, weighed, droppingOf, droppedFlow}
 use Rattle.dropping.proofs.Dropped.{dropped-room}
-use Rattle.dropping.proofs.Left.{next-deleghe}
+use Rattle.dropping.proofs.OneRecord.{next-deleghe}
 
--- A phase among others is one of them.
+-- A phase among three that are 2 or more is 2 or more.
 one-of-three : (p a b c : ℕ) → 2 ≤ a → 2 ≤ b → 2 ≤ c → among p (a ∷ b ∷ c ∷ []) ≡ true → 2 ≤ p
 unfolding among
 one-of-three p a b c x y z e = go (eqb p a) (eqb p b) (eqb p c) refl refl refl e

@@ -34,6 +34,6 @@ abbrev pub flowBy : Dropping → List ℕ → List ℕ → List ℕ
 flowBy (Dropped n) new old = new
 flowBy (Refused n r p) new old = old
 
--- the lent flow afterwards
+-- "The room set free at the end of the lent buffer is filled with spaces": the lent flow afterwards
 unfoldable pub droppedFlow : List ℕ → List ℕ → List ℕ
 droppedFlow f numbers = flowBy (droppingOf f numbers) (spaced (shortened f numbers) (length f)) f
