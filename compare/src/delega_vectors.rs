@@ -8,7 +8,6 @@ use crate::frames;
 use crate::rng::Rng;
 use crate::sound::{self, Amounts, DelegaPlan, Pool, SectionPlan};
 use crate::vectors::print_sections;
-use std::fs;
 use std::io::{self, Write};
 
 /// No more bytes than this in all.
@@ -54,9 +53,7 @@ pub fn write(seed: u64, count: u64, data_to: &str, stdout_to: &str) -> io::Resul
         sets[set] += 1;
         frames::within(MOST_WRITTEN, &data, written, "calls")?;
     }
-    fs::write(data_to, &data)?;
-    fs::write(stdout_to, &lines)?;
-    println!("{written} calls, {} bytes; {} bytes of answers", data.len(), lines.len());
+    frames::save([data_to, stdout_to], &data, &lines, written, "calls")?;
     for (way, times) in answers.iter().enumerate().filter(|(_, &times)| times > 0) {
         println!("{way:>2} {times}");
     }

@@ -6,10 +6,8 @@ use crate::calls::{Call, DROP_ROOM, MOST_NUMBERS, SUMS};
 use crate::columns::RECORD;
 use crate::drop_lists;
 use crate::drop_tally::Tally;
-use crate::dropping::Left;
 use crate::ffi;
-use crate::quick;
-use crate::rival;
+use crate::list_call::{self, Left};
 use crate::rng::Rng;
 
 /// Of longer flows one in so many is gone through.
@@ -21,7 +19,7 @@ type Held = Result<(), String>;
 /// What must hold, where these numbers were dropped from the flow.
 pub fn check(rng: &mut Rng, flow: &[u8], numbers: &[u64], left: &Left, tally: &mut Tally) -> Held {
     let length = left.answer[0] as usize;
-    accepted(&left.flow[..length])?;
+    list_call::refused(&left.flow[..length]).map_or(Ok(()), Err)?;
     if flow.len() <= LONG || rng.one_in(SELDOM) {
         sums(flow, numbers, &left.flow[..length])?;
         tally.summed += 1;
@@ -34,20 +32,6 @@ pub fn check(rng: &mut Rng, flow: &[u8], numbers: &[u64], left: &Left, tally: &m
         tally.lent_again += 1;
     }
     Ok(())
-}
-
-/// What is left is accepted by all.
-fn accepted(flow: &[u8]) -> Held {
-    let mut room = [0; MOST_NUMBERS];
-    let judged = [
-        (ffi::NAME, ffi::call(&Call::Judge, &mut flow.to_vec(), &mut room)),
-        ("reference", rival::call(&Call::Judge, &mut flow.to_vec(), &mut room)),
-        (quick::NAME, quick::judge(flow, &mut room)),
-    ];
-    match judged.iter().find(|(_, code)| *code != 0) {
-        Some((name, code)) => Err(format!("afterwards the {name} refuses it {code}")),
-        None => Ok(()),
-    }
 }
 
 /// Number of deleghe, of records, the sum of final balances, lines, and the ten sums:

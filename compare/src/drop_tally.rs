@@ -4,7 +4,7 @@ use crate::calls::NO_ROOM;
 use crate::columns::{Kind, Kind::*, COUNT, DELEGA, RECORD, TAIL_DELEGHE};
 use crate::drop_flows::{Case, Known, FAULTS, PLANS};
 use crate::drop_lists::{ORDERS, SORTS};
-use crate::dropping::Left;
+use crate::list_call::Left;
 use crate::sorts;
 use crate::sound::get;
 

@@ -10,7 +10,6 @@ use crate::rng::Rng;
 use crate::sorts;
 use crate::sound::Pool;
 use crate::vectors;
-use std::fs;
 use std::io::{self, Write};
 
 /// No more bytes than this in all.
@@ -94,9 +93,7 @@ pub fn write(seed: u64, count: u64, data_to: &str, stdout_to: &str) -> io::Resul
         lines.extend(printed);
         frames::within(MOST_WRITTEN, &data, written.cases, "cases")?;
     }
-    fs::write(data_to, &data)?;
-    fs::write(stdout_to, &lines)?;
-    println!("{count} cases, {} bytes; {} bytes of answers", data.len(), lines.len());
+    frames::save([data_to, stdout_to], &data, &lines, written.cases, "cases")?;
     for &(code, name) in ANSWERS.iter().filter(|&&(code, _)| code < 29) {
         println!("{name:<34} {:>10}", written.answers[code as usize]);
     }
@@ -106,9 +103,7 @@ pub fn write(seed: u64, count: u64, data_to: &str, stdout_to: &str) -> io::Resul
 
 /// The flow, the bytes that it has afterwards, and the list.
 fn frame(data: &mut Vec<u8>, name: &str, case: &Case, after: &[u8]) -> io::Result<()> {
-    frames::write_call(data, name, [case.numbers.len() as u64, 0, 0, 0, 0], &case.flow)?;
-    data.write_all(after)?;
-    data.write_all(b"\n")?;
+    frames::write_changed(data, name, case.numbers.len() as u64, &case.flow, after)?;
     for number in &case.numbers {
         write!(data, "{number:020} ")?;
     }

@@ -2,10 +2,10 @@
 
 use crate::calls::DROP_ROOM;
 use crate::columns::{COUNT, RECORD, TAIL_DELEGHE};
-use crate::drop_difference::Difference;
 use crate::drop_flows::{self, Case};
 use crate::dropped::Account;
-use crate::dropping::{Compared, Droppings};
+use crate::dropping::Droppings;
+use crate::list_call::{Compared, Difference};
 use crate::rng::Rng;
 use crate::sound::{self, Pool};
 use crate::{at, folder, progress, trap, Failure};
@@ -18,7 +18,7 @@ const FEWEST: u64 = 1000;
 
 fn differs(seed: u64, index: u64, difference: Box<Difference>) -> Failure {
     let case = format!("seed {seed}, dropping {index} (once more: again {seed} dropping {index})");
-    Failure::DroppingDiffers(case, difference)
+    Failure::ListCallDiffers(case, difference)
 }
 
 /// So many droppings, and calls with rooms of every length before them.
@@ -27,7 +27,7 @@ pub fn compare(pool: &Pool, seed: u64, many: u64) -> Result<Droppings, Failure> 
     if many > 0 {
         trap::at(trap::ROOM, 0, 0);
         every_room(&mut droppings, pool)
-            .map_err(|difference| Failure::DroppingDiffers("rooms of every length".to_string(), difference))?;
+            .map_err(|difference| Failure::ListCallDiffers("rooms of every length".to_string(), difference))?;
     }
     for index in 0..many {
         trap::at(trap::DROPPING, seed, index);
@@ -68,7 +68,7 @@ pub fn compare_files(files: &[&str]) -> Result<(), Failure> {
         for numbers in lists(deleghe.min(108)) {
             let name = format!("{file} without {numbers:?}");
             let case = Case { flow: flow.clone(), numbers, known: None, sorts: None };
-            droppings.compare(&mut rng, &case).map_err(|difference| Failure::DroppingDiffers(name, difference))?;
+            droppings.compare(&mut rng, &case).map_err(|difference| Failure::ListCallDiffers(name, difference))?;
         }
     }
     droppings.tally.print();

@@ -3,6 +3,7 @@
 //! Those of calls with numbers stand after a line of 153 bytes, with five
 //! numbers in 20 digits between name and length, each after a space.
 
+use std::fs;
 use std::io::{self, Write};
 
 pub const HEADER: usize = 48;
@@ -19,6 +20,23 @@ pub fn write_call(out: &mut impl Write, name: &str, numbers: [u64; 5], bytes: &[
     writeln!(out, "{name:<40} {numbers} {:06}", bytes.len())?;
     out.write_all(bytes)?;
     out.write_all(b"\n")
+}
+
+/// The same of a call with one number, and behind it the bytes that the flow or the
+/// room has after the call, and LF.
+pub fn write_changed(out: &mut impl Write, name: &str, number: u64, bytes: &[u8], after: &[u8]) -> io::Result<()> {
+    write_call(out, name, [number, 0, 0, 0, 0], bytes)?;
+    out.write_all(after)?;
+    out.write_all(b"\n")
+}
+
+/// Writes the frames of so many flows, sheets or calls to one file and the lines that
+/// are printed for them to another, and says how long they are.
+pub fn save([data_to, stdout_to]: [&str; 2], data: &[u8], lines: &[u8], written: u64, what: &str) -> io::Result<()> {
+    fs::write(data_to, data)?;
+    fs::write(stdout_to, lines)?;
+    println!("{written} {what}, {} bytes; {} bytes of answers", data.len(), lines.len());
+    Ok(())
 }
 
 /// An error where the frames of so many flows, sheets or calls have become too long.

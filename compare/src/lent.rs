@@ -2,6 +2,7 @@
 //! be touched, so that a read or a write past its end ends the program, and
 //! has marked bytes on the sides where no such page follows.
 
+use crate::rng::Rng;
 use std::ffi::c_void;
 use std::ops::Range;
 
@@ -28,6 +29,12 @@ pub enum Place {
     Start,
     /// Starts some bytes later.
     Within(usize),
+}
+
+/// Numbers that are seen to stay, or not.
+pub fn canary(rng: &mut Rng, room: usize) -> Vec<u64> {
+    let (first, step) = (rng.next(), rng.next() | 1);
+    (0..room as u64).map(|at| first.wrapping_add(at.wrapping_mul(step))).collect()
 }
 
 pub struct Lent {

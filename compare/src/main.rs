@@ -13,7 +13,6 @@ mod correction;
 mod damage;
 mod dates;
 mod delega_vectors;
-mod drop_difference;
 mod drop_flows;
 mod drop_lists;
 mod drop_steps;
@@ -29,6 +28,7 @@ mod frames;
 mod heads;
 mod lent;
 mod lines;
+mod list_call;
 mod mended;
 mod passed;
 mod payers;
@@ -111,8 +111,7 @@ pub enum Failure {
     Differs(String, Box<Difference>),
     SheetDiffers(String, Box<writing::Difference>),
     SeriesDiffers(String, Box<portion::Difference>),
-    RebalancingDiffers(String, Box<rebalancing::Difference>),
-    DroppingDiffers(String, Box<drop_difference::Difference>),
+    ListCallDiffers(String, Box<list_call::Difference>),
     /// An answer that came up too seldom for the run to say much.
     Seldom,
 }
@@ -144,12 +143,8 @@ fn main() -> ExitCode {
             eprintln!("\nDIFFERENCE in a judgement by portions");
             shown(&case, difference.write(&folder(), &case))
         }
-        Err(Failure::RebalancingDiffers(case, difference)) => {
-            eprintln!("\nDIFFERENCE in a rebalancing");
-            shown(&case, difference.write(&folder(), &case))
-        }
-        Err(Failure::DroppingDiffers(case, difference)) => {
-            eprintln!("\nDIFFERENCE in a dropping");
+        Err(Failure::ListCallDiffers(case, difference)) => {
+            eprintln!("\nDIFFERENCE in {}", difference.what());
             shown(&case, difference.write(&folder(), &case))
         }
     }

@@ -6,7 +6,7 @@ use crate::calls::{FOREIGN, NOT_ENDED, NO_ROOM, PORTION_ROOM, STATE_ROOM};
 use crate::columns::{MOST_BYTES, MOST_RECORDS, RECORD};
 use crate::ffi;
 use crate::forged;
-use crate::lent::{Lent, Place};
+use crate::lent::{canary, Lent, Place};
 use crate::report;
 use crate::rival;
 use crate::rng::Rng;
@@ -205,12 +205,6 @@ fn any_end(rng: &mut Rng) -> Place {
     } else {
         Place::Start
     }
-}
-
-/// Numbers that are seen to stay, or not.
-fn canary(rng: &mut Rng, room: usize) -> Vec<u64> {
-    let (first, step) = (rng.next(), rng.next() | 1);
-    (0..room as u64).map(|at| first.wrapping_add(at.wrapping_mul(step))).collect()
 }
 
 fn first_numbers(room: &[u64]) -> Numbers {

@@ -10,7 +10,6 @@ use crate::portion::Numbers;
 use crate::rng::Rng;
 use crate::sound::{self, Amounts, Pool, Size};
 use reference::{judge_portion, Answer, Answered, State};
-use std::fs;
 use std::io::{self, Write};
 
 /// No more bytes than this in all.
@@ -78,9 +77,7 @@ pub fn write(seed: u64, count: u64, data_to: &str, stdout_to: &str) -> io::Resul
         codes.iter().for_each(|&code| answers[code as usize] += 1);
         frames::within(MOST_WRITTEN, &data, written, "cases")?;
     }
-    fs::write(data_to, &data)?;
-    fs::write(stdout_to, &lines)?;
-    println!("{written} cases, {} bytes; {} bytes of answers", data.len(), lines.len());
+    frames::save([data_to, stdout_to], &data, &lines, written, "cases")?;
     say(&from, &answers, &last);
     Ok(())
 }

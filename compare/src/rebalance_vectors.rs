@@ -8,7 +8,6 @@ use crate::rebalancing::ANSWERS;
 use crate::rng::Rng;
 use crate::sound::{Pool, Size};
 use crate::vectors;
-use std::fs;
 use std::io::{self, Write};
 
 /// No more bytes than this in all.
@@ -65,16 +64,12 @@ pub fn write(seed: u64, count: u64, data_to: &str, stdout_to: &str) -> io::Resul
         tally[code as usize] += 1;
         assert!(case.list <= LONGEST_LIST);
         let name = format!("random-{written:04}");
-        frames::write_call(&mut data, &name, [case.list as u64, 0, 0, 0, 0], &case.made.flow)?;
-        data.write_all(&flow)?;
-        data.write_all(b"\n")?;
+        frames::write_changed(&mut data, &name, case.list as u64, &case.made.flow, &flow)?;
         writeln!(lines, "{name}")?;
         lines.extend(listed);
         frames::within(MOST_WRITTEN, &data, written, "cases")?;
     }
-    fs::write(data_to, &data)?;
-    fs::write(stdout_to, &lines)?;
-    println!("{written} cases, {} bytes; {} bytes of answers", data.len(), lines.len());
+    frames::save([data_to, stdout_to], &data, &lines, written, "cases")?;
     for &(code, name) in ANSWERS.iter().filter(|&&(code, _)| code < tally.len() as u64) {
         println!("{name:<16} {}", tally[code as usize]);
     }

@@ -2,9 +2,10 @@
 
 use crate::calls::{CHANGED_MOST, REBALANCE_ROOM};
 use crate::columns::{AMOUNT, RECORD};
+use crate::list_call::{Compared, Difference};
 use crate::mended::Account;
 use crate::rebalance_damage::{self, Case, Made};
-use crate::rebalancing::{Compared, Difference, Rebalancings};
+use crate::rebalancing::Rebalancings;
 use crate::rng::Rng;
 use crate::sound::{self, Pool};
 use crate::{at, folder, progress, trap, Failure};
@@ -17,7 +18,7 @@ const FEWEST: u64 = 1000;
 
 fn differs(seed: u64, index: u64, difference: Box<Difference>) -> Failure {
     let case = format!("seed {seed}, rebalancing {index} (once more: again {seed} rebalancing {index})");
-    Failure::RebalancingDiffers(case, difference)
+    Failure::ListCallDiffers(case, difference)
 }
 
 /// So many rebalancings, and calls with rooms of every length before them.
@@ -26,7 +27,7 @@ pub fn compare(pool: &Pool, seed: u64, many: u64) -> Result<Rebalancings, Failur
     if many > 0 {
         trap::at(trap::ROOM, 0, 0);
         every_room(&mut rebalancings, pool)
-            .map_err(|difference| Failure::RebalancingDiffers("rooms of every length".to_string(), difference))?;
+            .map_err(|difference| Failure::ListCallDiffers("rooms of every length".to_string(), difference))?;
     }
     for index in 0..many {
         trap::at(trap::REBALANCING, seed, index);
@@ -71,9 +72,7 @@ pub fn compare_files(files: &[&str]) -> Result<(), Failure> {
             let made = Made { flow: flow.clone(), known: None };
             let case = Case { made, list, account: Account::of(&flow), sort: None };
             let name = format!("{file} with a list of {list} numbers");
-            rebalancings
-                .compare(&mut rng, &case)
-                .map_err(|difference| Failure::RebalancingDiffers(name, difference))?;
+            rebalancings.compare(&mut rng, &case).map_err(|difference| Failure::ListCallDiffers(name, difference))?;
         }
     }
     rebalancings.tally.print();

@@ -2,62 +2,39 @@
 //! same numbers, and compares everything that either leaves behind. What both
 //! leave is held to what the generator says of the flow.
 
-use crate::calls::{Call, CHANGED_MOST, MOST_NUMBERS, NO_ROOM, REBALANCE_ROOM};
+use crate::calls::{CHANGED_MOST, NO_ROOM, REBALANCE_ROOM};
 use crate::columns::{Kind, MOST_AMOUNT, RECORD};
 use crate::ffi;
-use crate::heads;
-use crate::lent::{Lent, Place};
+use crate::lent::canary;
+use crate::list_call::{self, Compared, Left, ListCall, Says, Sides};
 use crate::mended::Account;
-use crate::payers;
-use crate::quick;
 use crate::rebalance_damage::{Case, Known, SORTS};
-use crate::report;
+use crate::report::place;
 use crate::rival;
 use crate::rng::Rng;
 use crate::sorts;
-use std::io;
-use std::path::Path;
 
-/// The longest flow that is tried.
-const MOST_FLOW: usize = 160_000;
-/// More numbers than a list and an answer need.
-const MOST_LIST: usize = 5000;
-const MOST_ANSWER: usize = REBALANCE_ROOM + 5;
-
-/// What a call answered and what it left.
-#[derive(Clone, PartialEq)]
-pub struct Left {
-    pub code: u64,
-    pub flow: Vec<u8>,
-    pub list: Vec<u64>,
-    pub answer: Vec<u64>,
-}
-
-/// A flow on which the sides are not the same, or not as they must be.
-pub struct Difference {
-    why: String,
-    before: Left,
-    reference: Left,
-    library: Left,
-}
-
-pub type Compared<T> = Result<T, Box<Difference>>;
+static REBALANCE: ListCall = ListCall {
+    what: "a rebalancing",
+    name: "f24_rebalance",
+    library: ffi::rebalance,
+    reference: rival::rebalance,
+    // More numbers than a list needs.
+    most_list: 5000,
+    needs: REBALANCE_ROOM,
+    list_file: None,
+    tell_list: |_| String::new(),
+    tell_left,
+};
 
 pub struct Rebalancings {
-    flow: Lent,
-    list: Lent,
-    answer: Lent,
+    sides: Sides,
     pub tally: Tally,
 }
 
 impl Rebalancings {
     pub fn new() -> Self {
-        Rebalancings {
-            flow: Lent::new(MOST_FLOW),
-            list: Lent::new(8 * MOST_LIST),
-            answer: Lent::new(8 * MOST_ANSWER),
-            tally: Tally::default(),
-        }
+        Rebalancings { sides: Sides::new(&REBALANCE), tally: Tally::default() }
     }
 
     /// Compares a case, now and then with too little room for the answer first.
@@ -72,13 +49,13 @@ impl Rebalancings {
         let numbers = REBALANCE_ROOM + if rng.one_in(2) { 0 } else { rng.place(5) };
         let left = self.compare_with(rng, &made.flow, *list, numbers, account)?;
         if let Some(why) = made.known.as_ref().and_then(|known| unlike(known, account)) {
-            return Err(Difference::of(why, &made.flow, &left));
+            return Err(self.sides.wrong(why, &made.flow, &[], &left));
         }
         self.tally.count(case, &left);
         sort.iter().for_each(|&sort| self.tally.sorts[sort] += 1);
         if left.code == 0 {
-            if let Some(why) = refused(&left.flow) {
-                return Err(Difference::of(why, &made.flow, &left));
+            if let Some(why) = list_call::refused(&left.flow) {
+                return Err(self.sides.wrong(why, &made.flow, &[], &left));
             }
             self.compare_with(rng, &left.flow, 0, REBALANCE_ROOM, &Account::settled(&left.flow))?;
             self.tally.seconds += 1;
@@ -96,96 +73,15 @@ impl Rebalancings {
         numbers: usize,
         account: &Account,
     ) -> Compared<Left> {
-        assert!(flow.len() <= MOST_FLOW && list <= MOST_LIST && numbers <= MOST_ANSWER);
-        let before = Left { code: 0, flow: flow.to_vec(), list: canary(rng, list), answer: canary(rng, numbers) };
-        let mut reference = before.clone();
-        reference.code = rival::rebalance(&mut reference.flow, &mut reference.list, &mut reference.answer);
-        let (library, beside) = self.ask_library(rng, &before);
-
-        let why = if library != reference {
-            format!("{} by the {}", what_differs(&library, &reference), ffi::NAME)
-        } else if beside {
-            "bytes beside the lent memory were written".to_string()
-        } else {
-            let says = says(account, &before);
-            let other = Some(&says).filter(|says| **says != reference).map(|says| {
-                let told = &says.answer[..says.answer.len().min(REBALANCE_ROOM)];
-                format!("{}: the generator says {} {told:?}", what_differs(&reference, says), says.code)
-            });
-            let other = other
-                .or_else(|| heads::unlike(flow, reference.code, &reference.answer))
-                .or_else(|| payers::unlike(|| payers::in_flow(flow), reference.code, &reference.answer));
-            match other {
-                None => return Ok(reference),
-                Some(why) => why,
-            }
+        let changed = account.changed.concat();
+        let told = match account.says {
+            [0, ..] if account.changed.len() > list / 2 => [27, 0, 0],
+            told => told,
         };
-        Err(Box::new(Difference { why, before, reference, library }))
+        let says = Says { told, number: account.changed.len(), list: &changed, flow: &account.after };
+        let list = canary(rng, list);
+        self.sides.compare(rng, flow, list, numbers, &says)
     }
-
-    /// What the library left, and whether it wrote to anything beside it.
-    fn ask_library(&mut self, rng: &mut Rng, before: &Left) -> (Left, bool) {
-        let place = match rng.below(4) {
-            0 => Place::Start,
-            1 => Place::Within(1 + rng.place(63)),
-            _ => Place::End,
-        };
-        let mut any_end = || if rng.one_in(2) { Place::End } else { Place::Start };
-        let flow_part = self.flow.part(before.flow.len(), place);
-        let list_part = self.list.part(8 * before.list.len(), any_end());
-        let answer_part = self.answer.part(8 * before.answer.len(), any_end());
-        let flow = self.flow.bytes(&flow_part);
-        flow.copy_from_slice(&before.flow);
-        let list = self.list.numbers(&list_part);
-        list.copy_from_slice(&before.list);
-        let answer = self.answer.numbers(&answer_part);
-        answer.copy_from_slice(&before.answer);
-        let code = ffi::rebalance(flow, list, answer);
-        let left = Left { code, flow: flow.to_vec(), list: list.to_vec(), answer: answer.to_vec() };
-        let kept = self.flow.kept(&flow_part) && self.list.kept(&list_part) && self.answer.kept(&answer_part);
-        (left, !kept)
-    }
-}
-
-/// Numbers that are seen to stay, or not.
-fn canary(rng: &mut Rng, room: usize) -> Vec<u64> {
-    let (first, step) = (rng.next(), rng.next() | 1);
-    (0..room as u64).map(|at| first.wrapping_add(at.wrapping_mul(step))).collect()
-}
-
-fn what_differs(one: &Left, other: &Left) -> &'static str {
-    if one.code != other.code {
-        "what is answered"
-    } else if one.answer != other.answer {
-        "the answer's numbers"
-    } else if one.list != other.list {
-        "the list"
-    } else {
-        "the flow"
-    }
-}
-
-/// What a call leaves, by the account.
-fn says(account: &Account, before: &Left) -> Left {
-    let mut left = before.clone();
-    let listed = account.changed.len();
-    let told = match account.says {
-        _ if before.answer.len() < REBALANCE_ROOM => {
-            left.code = NO_ROOM;
-            return left;
-        }
-        [0, ..] if listed > before.list.len() / 2 => [27, 0, 0],
-        told => told,
-    };
-    left.code = told[0];
-    if left.code == 0 {
-        left.answer[0] = listed as u64;
-        left.list[..2 * listed].copy_from_slice(&account.changed.concat());
-        left.flow.copy_from_slice(&account.after);
-    } else {
-        left.answer[..2].copy_from_slice(&told[1..]);
-    }
-    left
 }
 
 /// In what the account is not as the plan has it.
@@ -195,17 +91,6 @@ fn unlike(known: &Known, account: &Account) -> Option<String> {
         Known::Flow(_) if account.says[0] != 0 => Some("by the plan it is rebalanced".to_string()),
         Known::Flow(flow) => Some("not the flow of the plan".to_string()).filter(|_| *flow != account.after),
     }
-}
-
-/// Why a flow that was rebalanced is not accepted by all.
-fn refused(flow: &[u8]) -> Option<String> {
-    let mut room = [0; MOST_NUMBERS];
-    let judged = [
-        (ffi::NAME, ffi::call(&Call::Judge, &mut flow.to_vec(), &mut room)),
-        ("reference", rival::call(&Call::Judge, &mut flow.to_vec(), &mut room)),
-        (quick::NAME, quick::judge(flow, &mut room)),
-    ];
-    judged.iter().find(|(_, code)| *code != 0).map(|(name, code)| format!("afterwards the {name} refuses it {code}"))
 }
 
 /// The answers in the order of the tally.
@@ -363,59 +248,17 @@ fn size(fields: usize) -> usize {
     [0, 1, 3, 8, 32, 128, 512].iter().take_while(|&&end| fields > end).count()
 }
 
-impl Difference {
-    /// What a call left that is not as it must be.
-    fn of(why: String, flow: &[u8], left: &Left) -> Box<Self> {
-        let before = Left { code: 0, flow: flow.to_vec(), list: Vec::new(), answer: Vec::new() };
-        Box::new(Difference { why, before, reference: left.clone(), library: left.clone() })
-    }
-
-    /// Writes `flow`, `after-reference`, `after-library` and `difference.txt`.
-    pub fn write(&self, folder: &Path, case: &str) -> io::Result<String> {
-        let files: [(&str, &[u8]); 3] = [
-            ("flow", &self.before.flow),
-            ("after-reference", &self.reference.flow),
-            ("after-library", &self.library.flow),
-        ];
-        report::write_files(folder, &files, self.text(case))
-    }
-
-    fn text(&self, case: &str) -> String {
-        let mut text = format!("case: {case}\ndiffers: {}\n", self.why);
-        let Left { flow, list, answer, .. } = &self.before;
-        let (length, records) = (flow.len(), flow.len() / RECORD);
-        text += &format!(
-            "call: f24_rebalance, flow of {length} bytes, {records} records, list of {} numbers\n",
-            list.len()
-        );
-        text += &format!("answer before: {answer:?}\n");
-        for (name, left) in [(ffi::NAME, &self.library), ("reference", &self.reference)] {
-            text += &format!("{name}: answers {}, answer after {:?}\n", left.code, left.answer);
-            let changed: Vec<usize> = (0..length).filter(|&at| flow[at] != left.flow[at]).collect();
-            text += &match (changed.first(), changed.last()) {
-                (Some(&first), Some(&last)) => {
-                    format!("  changed {} bytes of the flow, from {} to {}\n", changed.len(), place(first), place(last))
-                }
-                _ => "  left the flow as it came\n".to_string(),
-            };
-            // Numbers that were not written are mostly larger than any place.
-            let written = left.list.iter().take_while(|&&number| number <= MOST_AMOUNT).count();
-            text += &format!("  list after: {:?}\n", &left.list[..written.min(40)]);
+/// The bytes of the flow that a side changed and the list that it left, as they are
+/// told of a difference.
+fn tell_left(before: &Left, left: &Left) -> String {
+    let changed: Vec<usize> = (0..before.flow.len()).filter(|&at| before.flow[at] != left.flow[at]).collect();
+    let changed = match (changed.first(), changed.last()) {
+        (Some(&first), Some(&last)) => {
+            format!("  changed {} bytes of the flow, from {} to {}", changed.len(), place(first), place(last))
         }
-        let (one, other) = (&self.library, &self.reference);
-        if let Some(at) = (0..length).find(|&at| one.flow[at] != other.flow[at]) {
-            let (one, other) = (one.flow[at], other.flow[at]);
-            text += &format!("first byte that differs after the call: {}, {one} and {other}\n", place(at));
-        }
-        if let Some(at) = (0..one.list.len()).find(|&at| one.list[at] != other.list[at]) {
-            let (one, other) = (one.list[at], other.list[at]);
-            text += &format!("first number of the list that differs: [{at}], {one} and {other}\n");
-        }
-        text
-    }
-}
-
-/// A place in the flow, counted from 0, as record and position.
-fn place(at: usize) -> String {
-    format!("record {} position {}", at / RECORD + 1, at % RECORD + 1)
+        _ => "  left the flow as it came".to_string(),
+    };
+    // Numbers that were not written are mostly larger than any place.
+    let written = left.list.iter().take_while(|&&number| number <= MOST_AMOUNT).count();
+    format!("{changed}\n  list after: {:?}\n", &left.list[..written.min(40)])
 }

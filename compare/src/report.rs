@@ -86,6 +86,6 @@ fn text(case: &str, difference: &Difference) -> String {
 }
 
 /// A place in the flow, counted from 0, as record and position.
-fn place(at: usize) -> String {
+pub fn place(at: usize) -> String {
     format!("record {} position {}", at / RECORD + 1, at % RECORD + 1)
 }

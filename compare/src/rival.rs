@@ -41,10 +41,7 @@ pub fn call(call: &Call, flow: &mut [u8], room: &mut [u64]) -> u64 {
             }
         }
     };
-    let Refusal { number, record, position } = refusal;
-    room[0] = record as u64;
-    room[1] = position as u64;
-    u64::from(number)
+    put_refusal(room, &refusal)
 }
 
 /// How many numbers the answer of a writing needs room for.
@@ -55,17 +52,7 @@ pub fn write(sheet: &[u8], room: &mut [u8], answer: &mut [u64]) -> u64 {
     if answer.len() < WRITE_NEEDS {
         return NO_ROOM;
     }
-    match reference::write(sheet, room) {
-        Ok(length) => {
-            answer[0] = length as u64;
-            0
-        }
-        Err(Refusal { number, record, position }) => {
-            answer[0] = record as u64;
-            answer[1] = position as u64;
-            u64::from(number)
-        }
-    }
+    put_answer(answer, reference::write(sheet, room))
 }
 
 /// Writes the first state of a judgement by portions.
@@ -96,11 +83,7 @@ pub fn judge_portion(flow: &[u8], portion: u64, state: &mut [u64], answer: &mut 
             put_summary(&mut answer[1..], &summary);
             0
         }
-        Answer::Ended(Err(Refusal { number, record, position })) => {
-            answer[1] = record as u64;
-            answer[2] = position as u64;
-            u64::from(number)
-        }
+        Answer::Ended(Err(refusal)) => put_refusal(&mut answer[1..], &refusal),
     }
 }
 
@@ -109,17 +92,7 @@ pub fn rebalance(flow: &mut [u8], changed: &mut [u64], answer: &mut [u64]) -> u6
     if answer.len() < REBALANCE_ROOM {
         return NO_ROOM;
     }
-    match reference::rebalance(flow, changed) {
-        Ok(listed) => {
-            answer[0] = listed as u64;
-            0
-        }
-        Err(Refusal { number, record, position }) => {
-            answer[0] = record as u64;
-            answer[1] = position as u64;
-            u64::from(number)
-        }
-    }
+    put_answer(answer, reference::rebalance(flow, changed))
 }
 
 /// Drops the deleghe with these numbers from a flow and writes the answer.
@@ -127,17 +100,25 @@ pub fn drop_deleghe(flow: &mut [u8], numbers: &[u64], answer: &mut [u64]) -> u64
     if answer.len() < DROP_ROOM {
         return NO_ROOM;
     }
-    match reference::drop_deleghe(flow, numbers) {
-        Ok(length) => {
-            answer[0] = length as u64;
+    put_answer(answer, reference::drop_deleghe(flow, numbers))
+}
+
+/// Writes the one number that a call answers with, or the refusal.
+fn put_answer(answer: &mut [u64], answered: Result<usize, Refusal>) -> u64 {
+    match answered {
+        Ok(number) => {
+            answer[0] = number as u64;
             0
         }
-        Err(Refusal { number, record, position }) => {
-            answer[0] = record as u64;
-            answer[1] = position as u64;
-            u64::from(number)
-        }
+        Err(refusal) => put_refusal(answer, &refusal),
     }
+}
+
+/// Writes where a flow or a sheet is refused, and gives the refusal's number.
+fn put_refusal(answer: &mut [u64], refusal: &Refusal) -> u64 {
+    answer[0] = refusal.record as u64;
+    answer[1] = refusal.position as u64;
+    u64::from(refusal.number)
 }
 
 /// Writes the summary of a flow.

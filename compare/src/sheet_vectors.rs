@@ -9,7 +9,6 @@ use crate::sheet_damage::{self, Case};
 use crate::sound::{self, Pool};
 use crate::vectors;
 use crate::writing::{way, WAYS};
-use std::fs;
 use std::io::{self, Write};
 
 /// No more bytes than this in all.
@@ -68,9 +67,7 @@ pub fn write(seed: u64, count: u64, data_to: &str, stdout_to: &str) -> io::Resul
         tally[answer] += 1;
         frames::within(MOST_WRITTEN, &data, written, "sheets")?;
     }
-    fs::write(data_to, &data)?;
-    fs::write(stdout_to, &lines)?;
-    println!("{written} sheets, {} bytes; {} bytes of answers", data.len(), lines.len());
+    frames::save([data_to, stdout_to], &data, &lines, written, "sheets")?;
     for (way, times) in WAYS.iter().zip(tally) {
         println!("{way:<16} {times}");
     }
@@ -89,9 +86,7 @@ fn answered(case: &Case) -> usize {
 fn one(name: &str, case: &Case, data: &mut Vec<u8>, lines: &mut Vec<u8>) -> io::Result<()> {
     let mut room: Vec<u8> = (0..case.room).map(|at| 33 + (at % 90) as u8).collect();
     let answer = reference::write(&case.sheet, &mut room);
-    frames::write_call(data, name, [case.room as u64, 0, 0, 0, 0], &case.sheet)?;
-    data.write_all(&room)?;
-    data.write_all(b"\n")?;
+    frames::write_changed(data, name, case.room as u64, &case.sheet, &room)?;
     writeln!(lines, "{name}")?;
     match answer {
         Ok(length) => {

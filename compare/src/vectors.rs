@@ -6,7 +6,6 @@ use crate::damage;
 use crate::frames;
 use crate::rng::Rng;
 use crate::sound::{self, Amounts, Pool, Size};
-use std::fs;
 use std::io::{self, Write};
 
 /// No more bytes than this in all.
@@ -59,9 +58,7 @@ pub fn write(seed: u64, count: u64, flows: &str, stdout: &str) -> io::Result<()>
         written += 1;
         frames::within(MOST_WRITTEN, &data, written, "flows")?;
     }
-    fs::write(flows, &data)?;
-    fs::write(stdout, &lines)?;
-    println!("{written} flows, {} bytes; {} bytes of answers", data.len(), lines.len());
+    frames::save([flows, stdout], &data, &lines, written, "flows")?;
     for way in (0..=20).chain([26]) {
         println!("{way:>2} {}", tally[way]);
     }
