@@ -112,21 +112,23 @@ module _ (f numbers : List ℕ) where
       go true e = e
       go false e = absurd (g .good (bad-in deleghe numbers e))
 
-  -- The answer, by the two tests.
-  answer-by : judged f .verdict ≡ Accepted → (b c : Bool) → eachOnce deleghe numbers ≡ b → eqb (leftOf numbers deleghe) 0 ≡ c → Answers f numbers (cond b (cond c (Refused 28 0 0) (Dropped (length (shortened f numbers)))) (Refused 21 0 0))
-  answer-by a true true e z = NoneLeft (good-list a e) (λ d lo hi. among-names d numbers (none-unnamed numbers deleghe (eqb-true _ _ z) d lo hi))
-  answer-by a true false e z =
+  -- The reason of the answer, by the two tests.
+  reason : judged f .verdict ≡ Accepted → (b c : Bool) → eachOnce deleghe numbers ≡ b → eqb (leftOf numbers deleghe) 0 ≡ c → Answers f numbers (weighed deleghe f numbers)
+  unfolding weighed
+  reason a true true e z = rw (z, e) (NoneLeft (good-list a e) (λ d lo hi. among-names d numbers (none-unnamed numbers deleghe (eqb-true _ _ z) d lo hi)))
+  reason a true false e z =
       let m = some-missing numbers deleghe (eqb-false _ _ z) in
-      AreDropped (good-list a e) (record { delega = m .delega; from = m .from; to = m .to; unnamed = λ x. false≢true (sym (m .missing) ∙ names-among x) })
-  answer-by a false c e z = BadList a (bad-in deleghe numbers e)
+      rw (z, e) (AreDropped (good-list a e) (record { delega = m .delega; from = m .from; to = m .to; unnamed = λ x. false≢true (sym (m .missing) ∙ names-among x) }))
+  reason a false true e z = rw (z, e) (BadList a (bad-in deleghe numbers e))
+  reason a false false e z = rw (z, e) (BadList a (bad-in deleghe numbers e))
 
   -- What is answered is answered for a reason.
   pub answered : Answers f numbers (droppingOf f numbers)
-  unfolding droppingOf weighed
+  unfolding droppingOf
   answered = go (judged f .verdict) refl
     where
-      go : (v : Verdict) → judged f .verdict ≡ v → Answers f numbers (judgedFirst Refused v (cond (eachOnce deleghe numbers) (cond (eqb (leftOf numbers deleghe) 0) (Refused 28 0 0) (Dropped (length (shortened f numbers)))) (Refused 21 0 0)))
-      go Accepted a = answer-by a (eachOnce deleghe numbers) (eqb (leftOf numbers deleghe) 0) refl refl
+      go : (v : Verdict) → judged f .verdict ≡ v → Answers f numbers (judgedFirst Refused v (weighed deleghe f numbers))
+      go Accepted a = reason a (eachOnce deleghe numbers) (eqb (leftOf numbers deleghe) 0) refl refl
       go (Judge.Refused n r p) a = NotAccepted a
 
   -- Where a delega is not named, some are left.

@@ -30,14 +30,15 @@ fn weigh(flow: &mut [u8], numbers: &[u64], deleghe: u64) -> Dropping
     ensures { λ r. ⌜ (r ≡ weighed deleghe (now (flow .entry)) (now (numbers .entry)))
         × (now (flow .exit) ≡ flowBy r (spaced (shortened (now (flow .entry)) (now (numbers .entry))) (length (now (flow .entry)))) (now (flow .entry))) ⌝ }
 {
-    if close::each_once(numbers, deleghe) {
-        let count = numbers.len();
-        if count as u64 == deleghe {
-            return Dropping::Refused(28, 0, 0);
-        }
-        return Dropping::Dropped(shorten(&mut *flow, numbers));
+    let once = close::each_once(numbers, deleghe);
+    let all = numbers.len() as u64 == deleghe;
+    if !once {
+        return Dropping::Refused(21, 0, 0);
     }
-    Dropping::Refused(21, 0, 0)
+    if all {
+        return Dropping::Refused(28, 0, 0);
+    }
+    Dropping::Dropped(shorten(&mut *flow, numbers))
 }
 
 // Drops the deleghe that a list names from a flow: the flow is closed up over them, the rest are numbered from 1, the tail is set, and spaces fill the room behind it.
