@@ -1,6 +1,6 @@
 -- The sums of an accepted flow: each section's debits and credits are those of its lines, and the flow's sum is that of its final balances, all debits less all credits.
 use Prim.Native.Nat.{ℕ, zero, suc, _+_, _<_}
-use mathlib.Core.Path.{_≡_, refl, ap}
+use mathlib.Core.Path.{_≡_, refl, ap, _∙_}
 use mathlib.Core.Bool.{Bool, true, false, cond, false≢true}
 use mathlib.Core.List.{List, [], _∷_}
 use native.Mathlib.Omega.{arith}
@@ -51,7 +51,7 @@ no-side x (suc n) (suc i) = no-side x n i
 module _ (x : Side) (i : ℕ) (r : List ℕ) where
   -- sums before and after a record
   abbrev Grown : List Sums → List Sums → ℕ → Type 0
-  Grown l m n = (i < length m) × (sideOf x (getD m i noSums) ≡ sideOf x (getD l i noSums) + n)
+  Grown l m n = (length m ≡ length l) × (sideOf x (getD m i noSums) ≡ sideOf x (getD l i noSums) + n)
 
   line-adds : (s : ℕ) (l : List Sums) → i < length l → Grown l (addedAt l s (lineSums (Line s) r)) (cond (eqb s i) (valueOf r (columnOf x i)) 0)
   unfolding addedAt
@@ -60,20 +60,20 @@ module _ (x : Side) (i : ℕ) (r : List ℕ) where
       go : Dec (i ≡ s) → Grown l (addedAt l s (lineSums (Line s) r)) (cond (eqb s i) (valueOf r (columnOf x i)) 0)
       go (yes e) =
           let k : s < length l = omega arith in
-          rw (e, length-set, getD-set-same l s _ noSums k, eq-eqb s s refl) (k, omega (arith, side-added x (getD l s noSums) (lineSums (Line s) r), side-line x s r))
-      go (no e) = rw (length-set, getD-set-other l s i _ noSums e, ne-eqb s i (omega arith)) (h, omega arith)
+          rw (e, length-set, getD-set-same l s _ noSums k, eq-eqb s s refl) (refl, omega (arith, side-added x (getD l s noSums) (lineSums (Line s) r), side-line x s r))
+      go (no e) = rw (length-set, getD-set-other l s i _ noSums e, ne-eqb s i (omega arith)) (refl, omega arith)
 
   section-adds : (k : Kind) (m : Money) → i < length (m .flow) → Grown (m .flow) (nextMoney m k (lineSums k r) .flow) (ofLine 0 (λ s. cond (eqb s i) (valueOf r (columnOf x i)) 0) k)
-  section-adds Head m h = (h, omega arith)
-  section-adds Taxpayer m h = (h, omega arith)
-  section-adds Domicile m h = (h, omega arith)
+  section-adds Head m h = (refl, omega arith)
+  section-adds Taxpayer m h = (refl, omega arith)
+  section-adds Domicile m h = (refl, omega arith)
   section-adds (Line s) m h = line-adds s (m .flow) h
-  section-adds (Balance s) m h = (h, omega arith)
-  section-adds Payment m h = (h, omega arith)
-  section-adds Receipt m h = (h, omega arith)
-  section-adds Addressee m h = (h, omega arith)
-  section-adds Tail m h = (h, omega arith)
-  section-adds Unknown m h = (h, omega arith)
+  section-adds (Balance s) m h = (refl, omega arith)
+  section-adds Payment m h = (refl, omega arith)
+  section-adds Receipt m h = (refl, omega arith)
+  section-adds Addressee m h = (refl, omega arith)
+  section-adds Tail m h = (refl, omega arith)
+  section-adds Unknown m h = (refl, omega arith)
 
 -- a 50-01 that passes holds the debits of its delega less the credits, which are not above them
 pub cond-true : (b : Bool) (n p : ℕ) → cond b Pass (Fault n p) ≡ Pass → b ≡ true
@@ -148,11 +148,22 @@ balance-after name st (r ∷ rs) h z =
     let b = balance-after name (next st r) rs (h .1) (a .0) in
     (b .0, omega arith)
 
+-- each section's sums grow by its lines, over any records
+pub sections-after : (x : Side) (i : ℕ) (st : State) (rs : List (List ℕ)) → i < length (st .money .flow) →
+    (length (stateAfter st rs .money .flow) ≡ length (st .money .flow)) × (sideOf x (getD (stateAfter st rs .money .flow) i noSums) ≡ sideOf x (getD (st .money .flow) i noSums) + sectionIn x i rs)
+unfolding stateAfter sumOver next
+sections-after x i st [] h = (refl, omega arith)
+sections-after x i st (r ∷ rs) h =
+    let a = section-adds x i r (kindIn r) (st .money) h in
+    let b = sections-after x i (next st r) rs (omega (arith, a .0)) in
+    (b .0 ∙ a .0, omega arith)
+
 -- "the debit and credit sums for each of the five sections"
 pub accepted-section-sums : (s : List ℕ) → judged s .verdict ≡ Accepted → (x : Side) (i : ℕ) → i < 5 → sideOf x (getD (judged s .summary .sums) i noSums) ≡ sectionIn x i (recordsOf s)
-unfolding startState next
+unfolding startState
 accepted-section-sums s e x i h =
-    accepted-adds s e (λ st. i < length (st .money .flow)) (λ m. sideOf x (getD (m .sums) i noSums)) _ (λ st r p f. section-adds x i r (kindIn r) (st .money) f) h (no-side x 5 i)
+    let q = ap (λ (j : Judgement). sideOf x (getD (j .summary .sums) i noSums)) (sound-judged s (accepted-means-no-fault s e)) in
+    omega (arith, q, sections-after x i startState (recordsOf s) h .1, no-side x 5 i)
 
 -- "the sum of final balances", as they stand in the records 50-01
 pub accepted-total-finals : (s : List ℕ) → judged s .verdict ≡ Accepted → judged s .summary .total ≡ finalsIn (recordsOf s)

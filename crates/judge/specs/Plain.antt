@@ -1,4 +1,4 @@
--- For theorems. What a flow's judgement is measured by: plain counts and sums over its records, the records that pass, and the checks of a record one by one.
+-- For theorems, but for what the sums of a section's lines are made of, `sumOver`, `Side`, `columnOf` and `sectionIn`: these are believed, for a record of sums (02, ask 10). What a flow's judgement is measured by: plain counts and sums over its records, the records that pass, and the checks of a record one by one.
 use Prim.Native.Nat.{ℕ, _+_, _<_, _≤_, _%_}
 use mathlib.Core.Path.{_≡_}
 use mathlib.Core.Bool.{true, false, cond}

@@ -2,10 +2,13 @@
 use Prim.Native.Nat.{ℕ, _%_, _<_, _≤_}
 use mathlib.Core.Path.{_≡_, refl, sym, _∙_}
 use mathlib.Core.List.{List}
+use native.Mathlib.Omega.{arith}
+use native.Mathlib.Decide.{ℕ-discrete, decLt}
 use borrow.Author.Tests.{lt-ltb, le-ltb, eq-eqb, ne-eqb}
 use lib.ListN.{length}
 use Rattle.rules.specs.State.{startState}
 use Rattle.judge.specs.Flow.{recordsOf, headNameOf}
+use Rattle.judge.specs.Plain.{Whole}
 use Rattle.rebalance.specs.Rebalance.{refreshed}
 use Rattle.lenient.specs.declared.Lenient.the-variants as Kept
 use Rattle.lenient.specs.Lenient.{lenientFrom}
@@ -56,3 +59,13 @@ module _ (f : List ℕ) where
 
     pub remaining-whole : (length f ≡ 0 → ⊥) → length f % 120 ≡ 0 → remaining f ≡ lenientFrom (headNameOf f) 0 0 startState (recordsOf f)
     remaining-whole n e = remaining-records n e ∙ sym (remaining-lenient (headNameOf f) startState (recordsOf f))
+
+  -- A flow in which no fault remains is of whole records.
+  pub passed-whole : remaining f ≡ Kept.Passed → Whole f
+  passed-whole e = by-length (decLt 65520 (length f)) (ℕ-discrete (length f) 0) (ℕ-discrete (length f % 120) 0)
+    where
+      by-length : Dec (65520 < length f) → Dec (length f ≡ 0) → Dec (length f % 120 ≡ 0) → Whole f
+      by-length (yes h) y z = let q = sym (remaining-long h) ∙ e in let o : _≡_ {A = ℕ} 0 1 = cc in absurd (omega arith)
+      by-length (no h) (yes n) z = let q = sym (remaining-none (omega arith) n) ∙ e in let o : _≡_ {A = ℕ} 0 1 = cc in absurd (omega arith)
+      by-length (no h) (no n) (no g) = let q = sym (remaining-ragged (omega arith) n g) ∙ e in let o : _≡_ {A = ℕ} 0 1 = cc in absurd (omega arith)
+      by-length (no h) (no n) (yes g) = record { short = omega arith; some = omega arith; even = g }

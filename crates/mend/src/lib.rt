@@ -4,7 +4,7 @@ ghost use lib.ListN.{length};
 ghost use Rattle.judge.specs.Plain.{Whole};
 ghost use Rattle.rebalance.specs.Rebalance.{refreshed};
 ghost use Rattle.changes.specs.Changes.{changesOf};
-ghost use Rattle.mend.specs.Mending.{listedIn, weighed, flowBy, listBy, mendingOf, mendedFlow, mendedList};
+ghost use Rattle.mend.specs.Mending.{remaining, listedIn, weighed, flowBy, listBy, mendingOf, mendedFlow, mendedList};
 ghost use Rattle.mend.specs.Inner.{Copied};
 use layout::Flow;
 use lenient::Lenient;
@@ -51,6 +51,23 @@ fn weigh(flow: &mut [u8], list: &mut [u64]) -> Mending
     Mending::Refused(23, 0, 0)
 }
 
+// The first fault of a flow that no rewriting of its totals mends: 1 and 2 by its length, and then the lenient judgement of its records.
+pub fn first_remaining(flow: &[u8]) -> Lenient
+    ensures { λ r. ⌜ r ≡ remaining (now (flow .entry)) ⌝ }
+{
+    let n = flow.len();
+    if Flow::MOST_BYTES < n {
+        return Lenient::Refused(1, 0, 0);
+    }
+    if n == 0 {
+        return Lenient::Refused(2, 0, 0);
+    }
+    if n % Flow::RECORD != 0 {
+        return Lenient::Refused(2, 0, 0);
+    }
+    lenient::judge_kept(flow, 0, 0)
+}
+
 // Rebalances a flow in place: every total, sign, balance, final balance and tail value is written from the lines, and each field that changes is listed by record
 // and start, two numbers of the list for each.
 pub fn mend(flow: &mut [u8], list: &mut [u64]) -> Mending
@@ -58,17 +75,7 @@ pub fn mend(flow: &mut [u8], list: &mut [u64]) -> Mending
         × (now (flow .exit) ≡ mendedFlow (now (flow .entry)) (now (list .entry)))
         × (now (list .exit) ≡ mendedList (now (flow .entry)) (now (list .entry))) ⌝ }
 {
-    let n = flow.len();
-    if Flow::MOST_BYTES < n {
-        return Mending::Refused(1, 0, 0);
-    }
-    if n == 0 {
-        return Mending::Refused(2, 0, 0);
-    }
-    if n % Flow::RECORD != 0 {
-        return Mending::Refused(2, 0, 0);
-    }
-    match lenient::judge_kept(flow, 0, 0) {
+    match first_remaining(flow) {
         Lenient::Passed => weigh(&mut *flow, &mut *list),
         Lenient::Refused(number, at, position) => Mending::Refused(number, at, position),
     }

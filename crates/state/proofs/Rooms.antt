@@ -66,7 +66,7 @@ some-after [] st h = absurd (omega arith)
 some-after (n ∷ l) st h = refl
 
 -- Five sums are those at their places.
-five-of : (ss : List Sums) → length ss ≡ 5 → getD ss 0 noSums ∷ getD ss 1 noSums ∷ getD ss 2 noSums ∷ getD ss 3 noSums ∷ getD ss 4 noSums ∷ [] ≡ ss
+pub five-of : (ss : List Sums) → length ss ≡ 5 → getD ss 0 noSums ∷ getD ss 1 noSums ∷ getD ss 2 noSums ∷ getD ss 3 noSums ∷ getD ss 4 noSums ∷ [] ≡ ss
 five-of (a ∷ b ∷ c ∷ d ∷ e ∷ []) h = refl
 five-of (a ∷ b ∷ c ∷ d ∷ e ∷ f ∷ s) h = absurd (omega arith)
 five-of [] h = absurd (omega arith)

@@ -1,6 +1,6 @@
 // The state of a judgement as numbers in room that is lent, so that a judgement may go on from them later.
 ghost use mathlib.Core.Path.{_≡_};
-ghost use Prim.Native.Nat.{_<_, _≤_};
+ghost use Prim.Native.Nat.{_+_, _<_, _≤_};
 ghost use lib.ListN.{length, getD};
 ghost use Rattle.state.specs.Numbers.{overlay, stateNumbers, sumsAt, stateOf, stateIn, Kept, keptAfter};
 use amounts::Sums;
@@ -66,7 +66,7 @@ fn state_numbers(st: State) -> [u64; 29]
 
 // The sums of the five sections that stand from a place on.
 pub fn sums_at(numbers: &[u64], at: usize) -> [Sums; 5]
-    requires { ⌜ (length (now numbers) ≡ 29) × (at ≤ 19) ⌝ }
+    requires { ⌜ at + 10 ≤ length (now numbers) ⌝ }
     ensures { λ r. ⌜ r ≡ sumsAt (now (numbers .entry)) at ⌝ }
 {
     [
