@@ -1,0 +1,10 @@
+pub mod Guarded
+pub mod Calls
+pub mod Corrected
+pub mod Mended
+pub mod Dropped
+pub mod Answered
+pub mod HandedBack
+pub mod TwentyNine
+pub mod AnySeries
+pub mod OneAnswer

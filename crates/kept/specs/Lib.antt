@@ -1,0 +1,4 @@
+pub mod Keeping
+pub mod Inner
+pub mod WhenRefused
+pub mod Series
