@@ -1,5 +1,5 @@
-/* f24.h: CBI F24 flows, judged at once or by portions, corrected, rebalanced, shortened by whole deleghe and written
- * from working sheets.
+/* f24.h: CBI F24 flows, judged at once or by portions, corrected, rebalanced, shortened by whole deleghe, these three
+ * also with a record of the flow's sums beside it, and written from working sheets.
  *
  * The functions of the static library libf24.a, for C and all that speaks C on x86-64 Linux. docs/LINKING.md says how
  * to build and link it.
@@ -8,27 +8,31 @@
  * from 1. Amounts are whole cents.
  *
  * Every function takes any bytes of any length as a flow or a sheet and any number as a number: it asks nothing but that
- *   - flow, sheet and room point to as many bytes as their lengths say, and answer, state, changed and numbers, aligned
- *     as uint64_t is, to answer_len, state_len, changed_len and numbers_len numbers;
+ *   - flow, sheet and room point to as many bytes as their lengths say, and answer, state, changed, numbers and kept,
+ *     aligned as uint64_t is, to answer_len, state_len, changed_len, numbers_len and kept_len numbers;
  *   - no pointer is null, not even where its length is 0;
  *   - none of them overlaps another, and nobody else writes to them during the call.
- * Nothing is allocated, kept between calls or printed: calls from several threads do not meet, so long as what they
- * are lent does not. What a judgement by portions goes on from is in the state, which the caller keeps.
+ * Nothing is allocated, remembered between calls or printed: calls from several threads do not meet, so long as what
+ * they are lent does not. What a judgement by portions goes on from is in state, and the sums that stand for a flow are
+ * in kept: the caller has both.
  *
  * What a function returns:
  *   0             accepted, found, made, rebalanced, dropped, written or started: see each function for the answer
- *   1 to 28       the number of the refusal, as docs/REFUSALS.md lists them. answer[0] is then the record and answer[1]
+ *   1 to 29       the number of the refusal, as docs/REFUSALS.md lists them. answer[0] is then the record and answer[1]
  *                 the position, both 0 where the refusal has no place; nothing else is written. f24_judge_portion has
- *                 the number of records examined before them. 28, of f24_drop alone: no delega would be left
- *   100           there is room for too few numbers in answer or in state (F24_NO_ROOM): nothing was read, written,
- *                 corrected, rebalanced or dropped. A list of changed fields that is too short is 27, a refusal
+ *                 the number of records examined before them. 27, of f24_rebalance and f24_rebalance_kept alone: the
+ *                 list of changed fields is too short. 28, of f24_drop and f24_drop_kept alone: no delega would be
+ *                 left. 29, of f24_correct_kept, f24_rebalance_kept and f24_drop_kept alone: the sums in kept are not
+ *                 those of the flow's lines
+ *   100           there is room for too few numbers in answer, in state or in kept (F24_NO_ROOM): nothing was read,
+ *                 written, corrected, rebalanced or dropped. A list of changed fields that is too short is 27
  *   101           the judgement by portions has not ended yet (F24_NOT_ENDED)
  *   102           the state is foreign: no judgement by portions of this flow handed it back (F24_FOREIGN)
  * 101 and 102 come from f24_judge_portion alone.
  *
- * Numbers of answer, of state and of changed beyond those that are written stay as they were, and so do all of numbers,
- * every byte of a flow that is neither corrected nor rebalanced nor shortened and every byte of a room that no flow is
- * written to.
+ * Numbers of answer, of state, of changed and of kept beyond those that are written stay as they were, and so do all of
+ * numbers, every byte of a flow that is neither corrected nor rebalanced nor shortened, all of kept where a call is
+ * refused, and every byte of a room that no flow is written to.
  *
  * The sections stand in this order everywhere: Erario (lines 40-01), INPS (40-03), Regioni (40-05), IMU and local
  * taxes (40-07), identifying elements (40-17).
@@ -45,28 +49,34 @@ extern "C" {
 
 /* The version of these answers. Version 1 had no line counts and no sets of sections: f24_judge needed room for 13
  * numbers then and f24_delega for 11, and the sums stood at answer[3] and answer[1] on. Version 2 began without
- * f24_drop, and nothing that it answers has changed since: a header that defines F24_DROP_ROOM has f24_drop. */
+ * f24_drop, and nothing that it answers has changed since: a header that defines F24_DROP_ROOM has f24_drop, and one
+ * that defines F24_KEPT_ROOM has f24_kept and the three functions that take its record. */
 #define F24_VERSION 2
 
-/* The return value where answer or state has too little room. */
+/* The return value where answer, state or kept has too little room. */
 #define F24_NO_ROOM 100
 
 /* The return values of a judgement by portions that are no verdict. */
 #define F24_NOT_ENDED 101
 #define F24_FOREIGN 102
 
-/* How many numbers each answer must have room for, refusals included. */
+/* How many numbers each answer must have room for, refusals included. f24_correct_kept, f24_rebalance_kept and
+ * f24_drop_kept need the room of the function without kept. */
 #define F24_JUDGE_ROOM 14
 #define F24_DELEGA_ROOM 14
 #define F24_FIND_ROOM 2
 #define F24_CORRECT_ROOM 2
 #define F24_REBALANCE_ROOM 2
 #define F24_DROP_ROOM 2
+#define F24_KEPT_ROOM 2
 #define F24_WRITE_ROOM 2
 #define F24_PORTION_ROOM 15
 
 /* How many numbers a state is. */
 #define F24_STATE_ROOM 53
+
+/* How many numbers a record of sums is: kept has so many. F24_KEPT_ROOM, above, is the room of an answer. */
+#define F24_SUMS_ROOM 10
 
 /* A list of so many numbers is long enough for every flow that is rebalanced: four fields for each of 546 records. */
 #define F24_CHANGED_MOST 4368
@@ -155,6 +165,59 @@ uint64_t f24_rebalance(uint8_t *flow, size_t flow_len, uint64_t *changed, size_t
  */
 uint64_t f24_drop(uint8_t *flow, size_t flow_len, const uint64_t *numbers, size_t numbers_len, uint64_t *answer,
                   size_t answer_len);
+
+/* Judges a flow and makes the record of its sums, which the caller keeps beside the flow. Where it is accepted:
+ *   kept[0], [1]        debit and credit sum of Erario over the flow
+ *   kept[2], [3]        of INPS
+ *   kept[4], [5]        of Regioni
+ *   kept[6], [7]        of IMU and local taxes
+ *   kept[8], [9]        of identifying elements
+ * which are answer[4] to answer[13] of f24_judge. Nothing is written to answer then. A refusal leaves kept as it was.
+ *
+ * Here and in the next three functions kept has 10 numbers at least (F24_SUMS_ROOM), else 100 is returned. Those behind
+ * the tenth are neither read nor written.
+ */
+uint64_t f24_kept(const uint8_t *flow, size_t flow_len, uint64_t *kept, size_t kept_len, uint64_t *answer,
+                  size_t answer_len);
+
+/* Corrects a line as f24_correct does, with the record of the flow's sums. Where that is done, the sums of the corrected
+ * flow stand in kept.
+ *
+ * A record stands for a flow whose lines have its ten sums, and for no other. After the refusals of the judgement and
+ * before 21, 22, 9, 14 and 23 it tries 29 (the ten numbers of kept are not the sums of the flow's lines), also where
+ * the new amounts are the old ones. All else is as in f24_correct, to the byte. A refusal, 29 too, leaves every byte of
+ * the flow and every number of kept as it was.
+ *
+ * So what f24_kept made is handed on from call to call of these three functions, refused ones among them, and stands
+ * for the flow all along. A call without kept that changes a sum, as f24_correct and f24_drop do, leaves kept behind:
+ * the next call with it returns 29, until f24_kept makes it anew.
+ */
+uint64_t f24_correct_kept(uint8_t *flow, size_t flow_len, uint64_t delega, uint64_t subtype, uint64_t place,
+                          uint64_t debit, uint64_t credit, uint64_t *kept, size_t kept_len, uint64_t *answer,
+                          size_t answer_len);
+
+/* Rebalances a flow as f24_rebalance does, with the record of the flow's sums. Where that is done, kept holds the sums
+ * of the rebalanced flow, which are those it came with, since no line has changed.
+ *
+ * kept is compared with the lines as they stand, never with the totals that are stored. After the refusals that
+ * f24_rebalance tries before 23 and 27, it tries 29, also where nothing would change; so 10 to 13, 15 and 18 to 20, and
+ * 7 in a field that is written anew, do not come before it. Then it tries 23 and 27. All else is as in f24_rebalance, to
+ * the byte. A refusal, 29 too, leaves every byte of the flow and every number of changed and of kept as it was.
+ *
+ * f24_kept makes no record of a flow that is refused. For one whose totals are wrong the caller has the sums from
+ * elsewhere, as from the time when it was accepted, or adds its lines up.
+ */
+uint64_t f24_rebalance_kept(uint8_t *flow, size_t flow_len, uint64_t *changed, size_t changed_len, uint64_t *kept,
+                            size_t kept_len, uint64_t *answer, size_t answer_len);
+
+/* Drops deleghe as f24_drop does, with the record of the flow's sums. Where that is done, the sums of what is left stand
+ * in kept.
+ *
+ * After the refusals of the judgement and before 21 and 28 it tries 29, also where numbers_len is 0. All else is as in
+ * f24_drop, to the byte. A refusal, 29 too, leaves every byte of the flow and every number of kept as it was.
+ */
+uint64_t f24_drop_kept(uint8_t *flow, size_t flow_len, const uint64_t *numbers, size_t numbers_len, uint64_t *kept,
+                       size_t kept_len, uint64_t *answer, size_t answer_len);
 
 /* Writes the flow of a working sheet into a room. docs/SHEETS.md says what a sheet is. Where that is done:
  *   answer[0]           the length of the flow in bytes, 120 for each of its records

@@ -3,8 +3,9 @@ ghost use mathlib.Core.Path.{_≡_};
 ghost use Prim.Native.Nat.{_≤_};
 ghost use mathlib.Core.List.{_∷_};
 ghost use lib.ListN.{length};
-ghost use Rattle.state.specs.Numbers.{overlay};
+ghost use Rattle.state.specs.Numbers.{overlay, sumsNumbers};
 ghost use Rattle.answers.specs.Numbers.{summaryNumbers, delegaNumbers, refusalNumbers, courseCode, portionNumbers, handedBack};
+use amounts::Sums;
 use delega::DelegaAnswer;
 use judge::Summary;
 use portion::Course;
@@ -21,6 +22,26 @@ pub fn put_refusal(room: &mut [u64], at: usize, position: usize)
     ensures { λ _. ⌜ now (room .exit) ≡ overlay (refusalNumbers at position) (now (room .entry)) ⌝ }
 {
     let numbers = [at as u64, position as u64];
+    state::put(&mut *room, &numbers);
+}
+
+// Writes the ten sums of a record.
+pub fn put_sums(room: &mut [u64], kept: [Sums; 5])
+    requires { ⌜ 10 ≤ length (now room) ⌝ }
+    ensures { λ _. ⌜ now (room .exit) ≡ overlay (sumsNumbers kept) (now (room .entry)) ⌝ }
+{
+    let numbers = [
+        kept[0].debit,
+        kept[0].credit,
+        kept[1].debit,
+        kept[1].credit,
+        kept[2].debit,
+        kept[2].credit,
+        kept[3].debit,
+        kept[3].credit,
+        kept[4].debit,
+        kept[4].credit,
+    ];
     state::put(&mut *room, &numbers);
 }
 
