@@ -6,6 +6,7 @@
 
 #![allow(dead_code, unknown_lints, unexpected_cfgs)]
 
+mod bench_kept;
 mod calendar;
 mod calls;
 mod codes;
@@ -33,8 +34,9 @@ const USAGE: &str = "usage:
   bench count WHO CASE TIMES      judges; WHO is library, reference, fast, characters or sum
   bench call WHO CALL TIMES       on the flow of 546 records; WHO is library or reference, CALL delega, find, correct,
                                   rebalance, blanked for a rebalancing with every stored field blanked before it, drop
-                                  for one delega in the middle that is dropped, or halved for every other one; WHO may
-                                  be nobody with the last three, which then copies the flow alone
+                                  for one delega in the middle that is dropped, or halved for every other one; or, with
+                                  a record of sums, kept, correct-kept, rebalance-kept or drop-kept; WHO may be nobody
+                                  with blanked, drop, halved and drop-kept, which then copies the flow alone
   bench clock ROUNDS              times them all, in turns: nanoseconds per flow, the median of the rounds
   bench memory                    bytes of stack and of heap that one call takes on each case";
 
@@ -151,6 +153,7 @@ fn calls(who: &str, call: &str, times: u64) -> Option<()> {
     match call {
         "rebalance" => return rebalance(who, &flows::middle().0, false, times),
         "blanked" => return rebalance(who, &flows::blanked(), true, times),
+        "kept" | "correct-kept" | "rebalance-kept" | "drop-kept" => return bench_kept::calls(who, call, times),
         _ => (),
     }
     let (mut flow, spot) = flows::middle();

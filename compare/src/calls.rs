@@ -30,6 +30,17 @@ pub const CHANGED_MOST: usize = 4368;
 /// How many numbers the answer of a dropping needs room for.
 pub const DROP_ROOM: usize = 2;
 
+/// How many numbers a record of sums is, and how many the answer needs room for where
+/// one is made.
+pub const SUMS_ROOM: usize = 10;
+pub const KEPT_ROOM: usize = 2;
+
+/// The refusal of a record that is not the flow's.
+pub const WRONG_RECORD: u64 = 29;
+
+/// The ten sums of the sections, debit and credit in turn.
+pub type Record = [u64; SUMS_ROOM];
+
 /// Whether an answer is one to the records: lengths, room and bytes that are no
 /// sheet come before them.
 pub fn is_of_records(code: u64) -> bool {
@@ -40,7 +51,7 @@ pub fn is_of_records(code: u64) -> bool {
 const JUDGE_ROOM: usize = 14;
 const DELEGA_ROOM: usize = 14;
 const FIND_ROOM: usize = 2;
-const CORRECT_ROOM: usize = 2;
+pub const CORRECT_ROOM: usize = 2;
 
 /// The most numbers that any answer has.
 pub const MOST_NUMBERS: usize = JUDGE_ROOM;
@@ -55,6 +66,11 @@ pub const OLD_ROOMS: [usize; 2] = [13, 11];
 pub const SUMS: usize = 4;
 
 impl Call {
+    /// The correction with these numbers.
+    pub fn correction([delega, subtype, place, debit, credit]: [u64; 5]) -> Self {
+        Call::Correct { delega, subtype, place, debit, credit }
+    }
+
     /// The call's column in a tally.
     pub fn index(&self) -> usize {
         match self {

@@ -117,7 +117,8 @@ pub fn choose(rng: &mut Rng, plan: &Plan) -> Call {
 
 /// New amounts that can be made, at the very edge now and then.
 fn fitting(rng: &mut Rng, spot: &Spot) -> (i64, i64) {
-    let most_credit = MOST - spot.credits;
+    // None is left where the plan's sums do not fit.
+    let most_credit = (MOST - spot.credits).max(0);
     let mut credit = match rng.below(8) {
         _ if spot.identifying => 0,
         0 => most_credit,

@@ -20,7 +20,7 @@ pub struct Made {
 /// What a damage may aim at: the refusals of a judgement, each alike but for 7,
 /// which has many places, and 26, which is come by in ten ways.
 #[rustfmt::skip]
-const AIMS: [u64; 23] = [1, 2, 3, 4, 5, 6, 7, 7, 8, 9, 10, 11, 12, 13, 14, 15, 16, 17, 18, 19, 20, 26, 26];
+pub const AIMS: [u64; 23] = [1, 2, 3, 4, 5, 6, 7, 7, 8, 9, 10, 11, 12, 13, 14, 15, 16, 17, 18, 19, 20, 26, 26];
 
 /// A flow that is sound, damaged in one place or more, or wild.
 pub fn any_flow(rng: &mut Rng, pool: &Pool) -> Made {

@@ -34,7 +34,7 @@ pub struct Case {
     pub sorts: Option<Sorts>,
 }
 
-type MakePlan = fn(&mut Rng) -> Plan;
+pub type MakePlan = fn(&mut Rng) -> Plan;
 
 /// The sorts of plans, each with how many of a thousand it is.
 pub const PLANS: [((u64, MakePlan), &str); 6] = [
@@ -81,7 +81,7 @@ pub fn case_of(rng: &mut Rng, pool: &Pool, plan: Plan) -> Case {
 }
 
 /// One of the places, by their weights.
-fn drawn(rng: &mut Rng, weights: impl Iterator<Item = u64> + Clone) -> usize {
+pub fn drawn(rng: &mut Rng, weights: impl Iterator<Item = u64> + Clone) -> usize {
     let mut left = rng.below(weights.clone().sum());
     for (place, weight) in weights.enumerate() {
         if left < weight {

@@ -104,10 +104,7 @@ pub fn write(seed: u64, count: u64, data_to: &str, stdout_to: &str) -> io::Resul
 /// The flow, the bytes that it has afterwards, and the list.
 fn frame(data: &mut Vec<u8>, name: &str, case: &Case, after: &[u8]) -> io::Result<()> {
     frames::write_changed(data, name, case.numbers.len() as u64, &case.flow, after)?;
-    for number in &case.numbers {
-        write!(data, "{number:020} ")?;
-    }
-    data.write_all(b"\n")
+    frames::write_list(data, &case.numbers)
 }
 
 /// The flow after the call, what the run program prints behind the name, and the

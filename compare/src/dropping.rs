@@ -9,16 +9,18 @@ use crate::drop_steps;
 use crate::drop_tally::Tally;
 use crate::dropped::Account;
 use crate::ffi;
-use crate::list_call::{Compared, Left, ListCall, Says, Sides};
+use crate::list_call::{Asked, Compared, Left, ListCall, Says, Sides};
 use crate::rival;
 use crate::rng::Rng;
 
 static DROP: ListCall = ListCall {
     what: "a dropping",
     name: "f24_drop",
-    library: |flow, list, answer| ffi::drop_deleghe(flow, list, answer),
-    reference: |flow, list, answer| rival::drop_deleghe(flow, list, answer),
+    library: |lent| ffi::drop_deleghe(lent.flow, lent.list, lent.answer),
+    reference: |lent| rival::drop_deleghe(lent.flow, lent.list, lent.answer),
+    plain: None,
     most_list: LONGEST,
+    record: 0,
     needs: DROP_ROOM,
     list_file: Some("numbers"),
     tell_list: |list| format!(": {:?}", &list[..list.len().min(40)]),
@@ -52,12 +54,12 @@ impl Droppings {
         let room = DROP_ROOM + if rng.one_in(2) { 0 } else { rng.place(5) };
         let left = self.compare_with(rng, flow, numbers, room, &account)?;
         if let Some(why) = known.as_ref().and_then(|known| unlike(known, &account)) {
-            return Err(self.sides.wrong(why, flow, &left.list, &left));
+            return Err(self.sides.wrong(why, flow, &left.list, &[], &left));
         }
         self.tally.count(case, &left);
         if left.code == 0 {
             drop_steps::check(rng, flow, numbers, &left, &mut self.tally)
-                .map_err(|why| self.sides.wrong(why, flow, &left.list, &left))?;
+                .map_err(|why| self.sides.wrong(why, flow, &left.list, &[], &left))?;
         }
         Ok(left.code)
     }
@@ -73,8 +75,8 @@ impl Droppings {
         account: &Account,
     ) -> Compared<Left> {
         let Account { says, after, length } = account;
-        let says = Says { told: *says, number: *length, list: &[], flow: after };
-        self.sides.compare(rng, flow, numbers.to_vec(), room, &says)
+        let says = Says { told: *says, number: Some(*length), list: &[], kept: &[], flow: after };
+        self.sides.compare(rng, Asked { flow, list: numbers.to_vec(), kept: Vec::new(), room }, &says)
     }
 }
 

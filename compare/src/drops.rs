@@ -78,7 +78,7 @@ pub fn compare_files(files: &[&str]) -> Result<(), Failure> {
 
 /// Lists for a flow of so many deleghe: each by itself and all but each, every other
 /// one, none and all, and all sorts that are refused.
-fn lists(deleghe: u64) -> Vec<Vec<u64>> {
+pub fn lists(deleghe: u64) -> Vec<Vec<u64>> {
     let all: Vec<u64> = (1..=deleghe).collect();
     let mut lists = vec![vec![], all.clone(), [&all[..], &[1]].concat(), (1..=deleghe).step_by(2).collect()];
     for &number in &all {

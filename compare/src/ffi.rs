@@ -66,6 +66,47 @@ extern "C" {
         answer: *mut u64,
         answer_len: usize,
     ) -> u64;
+    fn f24_kept(
+        flow: *const u8,
+        flow_len: usize,
+        kept: *mut u64,
+        kept_len: usize,
+        answer: *mut u64,
+        answer_len: usize,
+    ) -> u64;
+    fn f24_correct_kept(
+        flow: *mut u8,
+        flow_len: usize,
+        delega: u64,
+        subtype: u64,
+        place: u64,
+        debit: u64,
+        credit: u64,
+        kept: *mut u64,
+        kept_len: usize,
+        answer: *mut u64,
+        answer_len: usize,
+    ) -> u64;
+    fn f24_rebalance_kept(
+        flow: *mut u8,
+        flow_len: usize,
+        changed: *mut u64,
+        changed_len: usize,
+        kept: *mut u64,
+        kept_len: usize,
+        answer: *mut u64,
+        answer_len: usize,
+    ) -> u64;
+    fn f24_drop_kept(
+        flow: *mut u8,
+        flow_len: usize,
+        numbers: *const u64,
+        numbers_len: usize,
+        kept: *mut u64,
+        kept_len: usize,
+        answer: *mut u64,
+        answer_len: usize,
+    ) -> u64;
 }
 
 /// Makes a call on a flow and lets the library write its answer into the room.
@@ -131,6 +172,49 @@ pub fn drop_deleghe(flow: &mut [u8], numbers: &[u64], answer: &mut [u64]) -> u64
     unsafe { f24_drop(flow.as_mut_ptr(), flow.len(), list, length, answer.as_mut_ptr(), answer.len()) }
 }
 
+/// Lets the library make the record of a flow's sums and write its answer.
+#[cfg(not(stand_in))]
+pub fn kept(flow: &[u8], kept: &mut [u64], answer: &mut [u64]) -> u64 {
+    // SAFETY: the three pointers are to slices of these lengths, lent for the
+    // call alone and apart from one another; the library asks nothing else.
+    unsafe { f24_kept(flow.as_ptr(), flow.len(), kept.as_mut_ptr(), kept.len(), answer.as_mut_ptr(), answer.len()) }
+}
+
+/// Lets the library correct a line, with delega, subtype, place, debit and credit, and
+/// write the record and its answer.
+#[cfg(not(stand_in))]
+pub fn correct_kept(flow: &mut [u8], numbers: [u64; 5], kept: &mut [u64], answer: &mut [u64]) -> u64 {
+    let [delega, subtype, place, debit, credit] = numbers;
+    let (bytes, length) = (flow.as_mut_ptr(), flow.len());
+    let (sums, ten) = (kept.as_mut_ptr(), kept.len());
+    let (room, many) = (answer.as_mut_ptr(), answer.len());
+    // SAFETY: as above.
+    unsafe { f24_correct_kept(bytes, length, delega, subtype, place, debit, credit, sums, ten, room, many) }
+}
+
+/// Lets the library rebalance a flow and write the list of what changed, the record
+/// and its answer.
+#[cfg(not(stand_in))]
+pub fn rebalance_kept(flow: &mut [u8], changed: &mut [u64], kept: &mut [u64], answer: &mut [u64]) -> u64 {
+    let (bytes, length) = (flow.as_mut_ptr(), flow.len());
+    let (list, numbers) = (changed.as_mut_ptr(), changed.len());
+    let (sums, ten) = (kept.as_mut_ptr(), kept.len());
+    // SAFETY: the four pointers are to slices of these lengths, lent for the
+    // call alone and apart from one another; the library asks nothing else.
+    unsafe { f24_rebalance_kept(bytes, length, list, numbers, sums, ten, answer.as_mut_ptr(), answer.len()) }
+}
+
+/// Lets the library drop the deleghe with these numbers and write the record and its
+/// answer.
+#[cfg(not(stand_in))]
+pub fn drop_kept(flow: &mut [u8], numbers: &[u64], kept: &mut [u64], answer: &mut [u64]) -> u64 {
+    let (bytes, length) = (flow.as_mut_ptr(), flow.len());
+    let (sums, ten) = (kept.as_mut_ptr(), kept.len());
+    let (room, many) = (answer.as_mut_ptr(), answer.len());
+    // SAFETY: as above.
+    unsafe { f24_drop_kept(bytes, length, numbers.as_ptr(), numbers.len(), sums, ten, room, many) }
+}
+
 /// A build with `--cfg stand_in` links no library: the reference takes its
 /// place, and nothing is compared but the reference with itself.
 #[cfg(stand_in)]
@@ -164,4 +248,24 @@ pub fn rebalance(flow: &mut [u8], changed: &mut [u64], answer: &mut [u64]) -> u6
 #[cfg(stand_in)]
 pub fn drop_deleghe(flow: &mut [u8], numbers: &[u64], answer: &mut [u64]) -> u64 {
     crate::rival::drop_deleghe(flow, numbers, answer)
+}
+
+#[cfg(stand_in)]
+pub fn kept(flow: &[u8], kept: &mut [u64], answer: &mut [u64]) -> u64 {
+    crate::rival::kept(flow, kept, answer)
+}
+
+#[cfg(stand_in)]
+pub fn correct_kept(flow: &mut [u8], numbers: [u64; 5], kept: &mut [u64], answer: &mut [u64]) -> u64 {
+    crate::rival::correct_kept(flow, numbers, kept, answer)
+}
+
+#[cfg(stand_in)]
+pub fn rebalance_kept(flow: &mut [u8], changed: &mut [u64], kept: &mut [u64], answer: &mut [u64]) -> u64 {
+    crate::rival::rebalance_kept(flow, changed, kept, answer)
+}
+
+#[cfg(stand_in)]
+pub fn drop_kept(flow: &mut [u8], numbers: &[u64], kept: &mut [u64], answer: &mut [u64]) -> u64 {
+    crate::rival::drop_kept(flow, numbers, kept, answer)
 }

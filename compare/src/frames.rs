@@ -30,6 +30,14 @@ pub fn write_changed(out: &mut impl Write, name: &str, number: u64, bytes: &[u8]
     out.write_all(b"\n")
 }
 
+/// A list of numbers, each in 20 digits with a space behind it, and LF.
+pub fn write_list(out: &mut impl Write, numbers: &[u64]) -> io::Result<()> {
+    for number in numbers {
+        write!(out, "{number:020} ")?;
+    }
+    out.write_all(b"\n")
+}
+
 /// Writes the frames of so many flows, sheets or calls to one file and the lines that
 /// are printed for them to another, and says how long they are.
 pub fn save([data_to, stdout_to]: [&str; 2], data: &[u8], lines: &[u8], written: u64, what: &str) -> io::Result<()> {

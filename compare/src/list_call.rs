@@ -1,8 +1,8 @@
-//! A call that is lent a flow, a list of numbers and an answer, made on both sides
-//! from the same contents. Everything that either leaves behind is compared, and
-//! what both leave is held to what the generator says.
+//! A call that is lent a flow, a list of numbers, now and then a record of sums, and
+//! an answer, made on both sides from the same contents. Everything that either
+//! leaves behind is compared, and what both leave is held to what the generator says.
 
-use crate::calls::{Call, MOST_NUMBERS, NO_ROOM};
+use crate::calls::{Call, MOST_NUMBERS, NO_ROOM, WRONG_RECORD};
 use crate::columns::RECORD;
 use crate::ffi;
 use crate::heads;
@@ -18,8 +18,17 @@ use std::path::Path;
 /// The longest flow that is tried.
 const MOST_FLOW: usize = 160_000;
 
-/// Makes the call with a flow, a list and an answer.
-type Made = fn(&mut [u8], &mut [u64], &mut [u64]) -> u64;
+/// What is lent to a call.
+pub struct Rooms<'a> {
+    pub flow: &'a mut [u8],
+    pub list: &'a mut [u64],
+    /// The record; empty where the call takes none.
+    pub kept: &'a mut [u64],
+    pub answer: &'a mut [u64],
+}
+
+/// Makes the call.
+type Made = fn(Rooms) -> u64;
 
 /// Which call it is, and how a difference in it is told.
 pub struct ListCall {
@@ -28,9 +37,14 @@ pub struct ListCall {
     pub name: &'static str,
     pub library: Made,
     pub reference: Made,
+    /// The library's call without a record, which must leave the same where the record
+    /// is right.
+    pub plain: Option<Made>,
     /// The longest list that is lent.
     pub most_list: usize,
-    /// How many numbers the answer needs.
+    /// How many numbers the record has, none where the call takes none, and how many
+    /// the answer needs.
+    pub record: usize,
     pub needs: usize,
     /// The file that the list of a difference goes to, where the call reads the list.
     pub list_file: Option<&'static str>,
@@ -40,11 +54,15 @@ pub struct ListCall {
     pub tell_left: fn(&Left, &Left) -> String,
 }
 
-impl ListCall {
-    /// More numbers than the answer needs.
-    fn most_answer(&self) -> usize {
-        self.needs + 5
-    }
+/// So many numbers more than a record has or an answer needs are lent at most.
+pub const MORE: usize = 5;
+
+/// What a call is lent, and an answer of so many numbers.
+pub struct Asked<'a> {
+    pub flow: &'a [u8],
+    pub list: Vec<u64>,
+    pub kept: Vec<u64>,
+    pub room: usize,
 }
 
 /// What a call answered and what it left.
@@ -53,32 +71,41 @@ pub struct Left {
     pub code: u64,
     pub flow: Vec<u8>,
     pub list: Vec<u64>,
+    pub kept: Vec<u64>,
     pub answer: Vec<u64>,
+}
+
+impl Left {
+    fn rooms(&mut self) -> Rooms<'_> {
+        Rooms { flow: &mut self.flow, list: &mut self.list, kept: &mut self.kept, answer: &mut self.answer }
+    }
 }
 
 /// What the generator says of a call with room for its answer.
 pub struct Says<'a> {
     /// The number of the refusal, 0 where there is none, its record and position.
     pub told: [u64; 3],
-    /// Where there is none: the answer's number, the list's first numbers and the
-    /// flow afterwards.
-    pub number: usize,
+    /// Where there is none: the answer's number, if it has one, the list's first
+    /// numbers, the record and the flow afterwards.
+    pub number: Option<usize>,
     pub list: &'a [u64],
+    pub kept: &'a [u64],
     pub flow: &'a [u8],
 }
 
 impl Says<'_> {
-    /// What the call leaves, whose answer needs so many numbers.
-    fn left(&self, before: &Left, needs: usize) -> Left {
+    /// What the call leaves.
+    fn left(&self, before: &Left, call: &ListCall) -> Left {
         let mut left = before.clone();
-        if before.answer.len() < needs {
+        if before.answer.len() < call.needs || before.kept.len() < call.record {
             left.code = NO_ROOM;
             return left;
         }
         left.code = self.told[0];
         if left.code == 0 {
-            left.answer[0] = self.number as u64;
+            self.number.iter().for_each(|&number| left.answer[0] = number as u64);
             left.list[..self.list.len()].copy_from_slice(self.list);
+            left.kept[..self.kept.len()].copy_from_slice(self.kept);
             left.flow.copy_from_slice(self.flow);
         } else {
             left.answer[..2].copy_from_slice(&self.told[1..]);
@@ -94,6 +121,7 @@ pub struct Sides {
     call: &'static ListCall,
     flow: Lent,
     list: Lent,
+    kept: Lent,
     answer: Lent,
 }
 
@@ -103,18 +131,20 @@ impl Sides {
             call,
             flow: Lent::new(MOST_FLOW),
             list: Lent::new(8 * call.most_list),
-            answer: Lent::new(8 * call.most_answer()),
+            kept: Lent::new(8 * (call.record + MORE)),
+            answer: Lent::new(8 * (call.needs + MORE)),
         }
     }
 
-    /// Compares a call with an answer of so many numbers, and what both sides leave
-    /// with what the generator says.
-    pub fn compare(&mut self, rng: &mut Rng, flow: &[u8], list: Vec<u64>, room: usize, says: &Says) -> Compared<Left> {
+    /// Compares a call, and what both sides leave with what the generator says.
+    pub fn compare(&mut self, rng: &mut Rng, asked: Asked, says: &Says) -> Compared<Left> {
         let call = self.call;
-        assert!(flow.len() <= MOST_FLOW && list.len() <= call.most_list && room <= call.most_answer());
-        let before = Left { code: 0, flow: flow.to_vec(), list, answer: canary(rng, room) };
+        let Asked { flow, list, kept, room } = asked;
+        assert!(flow.len() <= MOST_FLOW && list.len() <= call.most_list);
+        assert!(kept.len() <= call.record + MORE && room <= call.needs + MORE);
+        let before = Left { code: 0, flow: flow.to_vec(), list, kept, answer: canary(rng, room) };
         let mut reference = before.clone();
-        reference.code = (call.reference)(&mut reference.flow, &mut reference.list, &mut reference.answer);
+        reference.code = (call.reference)(reference.rooms());
         let (library, beside) = self.ask_library(rng, &before);
 
         let why = if library != reference {
@@ -122,12 +152,15 @@ impl Sides {
         } else if beside {
             "bytes beside the lent memory were written".to_string()
         } else {
-            let says = says.left(&before, call.needs);
+            let says = says.left(&before, call);
             let other = Some(&says).filter(|says| **says != reference).map(|says| {
                 let told = &says.answer[..says.answer.len().min(call.needs)];
-                format!("{}: the generator says {} {told:?}", what_differs(&reference, says), says.code)
+                let kept = &says.kept[..says.kept.len().min(call.record)];
+                let kept = if call.record > 0 { format!(", record {kept:?}") } else { String::new() };
+                format!("{}: the generator says {} {told:?}{kept}", what_differs(&reference, says), says.code)
             });
             let other = other
+                .or_else(|| call.plain.and_then(|plain| unlike_plain(plain, &before, &reference)))
                 .or_else(|| heads::unlike(flow, reference.code, &reference.answer))
                 .or_else(|| payers::unlike(|| payers::in_flow(flow), reference.code, &reference.answer));
             match other {
@@ -149,24 +182,53 @@ impl Sides {
         let flow_part = self.flow.part(before.flow.len(), place);
         let list_part = self.list.part(8 * before.list.len(), any_end());
         let answer_part = self.answer.part(8 * before.answer.len(), any_end());
-        let flow = self.flow.bytes(&flow_part);
-        flow.copy_from_slice(&before.flow);
-        let list = self.list.numbers(&list_part);
-        list.copy_from_slice(&before.list);
-        let answer = self.answer.numbers(&answer_part);
-        answer.copy_from_slice(&before.answer);
-        let code = (self.call.library)(flow, list, answer);
-        let left = Left { code, flow: flow.to_vec(), list: list.to_vec(), answer: answer.to_vec() };
-        let kept = self.flow.kept(&flow_part) && self.list.kept(&list_part) && self.answer.kept(&answer_part);
-        (left, !kept)
+        let kept_place = if self.call.record > 0 { any_end() } else { Place::End };
+        let kept_part = self.kept.part(8 * before.kept.len(), kept_place);
+        let rooms = Rooms {
+            flow: self.flow.bytes(&flow_part),
+            list: self.list.numbers(&list_part),
+            kept: self.kept.numbers(&kept_part),
+            answer: self.answer.numbers(&answer_part),
+        };
+        rooms.flow.copy_from_slice(&before.flow);
+        rooms.list.copy_from_slice(&before.list);
+        rooms.kept.copy_from_slice(&before.kept);
+        rooms.answer.copy_from_slice(&before.answer);
+        let code = (self.call.library)(rooms);
+        let left = Left {
+            code,
+            flow: self.flow.bytes(&flow_part).to_vec(),
+            list: self.list.numbers(&list_part).to_vec(),
+            kept: self.kept.numbers(&kept_part).to_vec(),
+            answer: self.answer.numbers(&answer_part).to_vec(),
+        };
+        let same = self.flow.kept(&flow_part) && self.list.kept(&list_part);
+        let same = same && self.kept.kept(&kept_part) && self.answer.kept(&answer_part);
+        (left, !same)
     }
 
-    /// What a call left that is not as it must be, with as much of the list before it
-    /// as is to be told.
-    pub fn wrong(&self, why: String, flow: &[u8], list: &[u64], left: &Left) -> Box<Difference> {
-        let before = Left { code: 0, flow: flow.to_vec(), list: list.to_vec(), answer: Vec::new() };
+    /// What a call left that is not as it must be, with as much of the list and the record
+    /// before it as is to be told.
+    pub fn wrong(&self, why: String, flow: &[u8], list: &[u64], kept: &[u64], left: &Left) -> Box<Difference> {
+        let (list, kept, answer) = (list.to_vec(), kept.to_vec(), Vec::new());
+        let before = Left { code: 0, flow: flow.to_vec(), list, kept, answer };
         Box::new(Difference { call: self.call, why, before, reference: left.clone(), library: left.clone() })
     }
+}
+
+/// Why the call without a record does not leave the same, unless the record was wrong or
+/// nothing was read.
+fn unlike_plain(plain: Made, before: &Left, left: &Left) -> Option<String> {
+    if matches!(left.code, WRONG_RECORD | NO_ROOM) {
+        return None;
+    }
+    let mut other = before.clone();
+    other.code = plain(other.rooms());
+    other.kept.copy_from_slice(&left.kept);
+    Some(&other).filter(|other| **other != *left).map(|other| {
+        let (told, answer) = (what_differs(left, other), &other.answer);
+        format!("{told}: the call without a record answers {} {answer:?}", other.code)
+    })
 }
 
 fn what_differs(one: &Left, other: &Left) -> &'static str {
@@ -176,6 +238,8 @@ fn what_differs(one: &Left, other: &Left) -> &'static str {
         "the answer's numbers"
     } else if one.list != other.list {
         "the list"
+    } else if one.kept != other.kept {
+        "the record"
     } else {
         "the flow"
     }
@@ -222,14 +286,20 @@ impl Difference {
     }
 
     fn text(&self, case: &str) -> String {
-        let Left { flow, list, answer, .. } = &self.before;
+        let Left { flow, list, kept, answer, .. } = &self.before;
         let (length, records) = (flow.len(), flow.len() / RECORD);
         let mut text = format!("case: {case}\ndiffers: {}\n", self.why);
         text += &format!("call: {}, flow of {length} bytes, {records} records, ", self.call.name);
         text += &format!("list of {} numbers{}\n", list.len(), (self.call.tell_list)(list));
         text += &format!("answer before: {answer:?}\n");
+        if self.call.record > 0 {
+            text += &format!("record before: {kept:?}\n");
+        }
         for (name, left) in [(ffi::NAME, &self.library), ("reference", &self.reference)] {
             text += &format!("{name}: answers {}, answer after {:?}\n", left.code, left.answer);
+            if self.call.record > 0 {
+                text += &format!("  record after: {:?}\n", left.kept);
+            }
             text += &(self.call.tell_left)(&self.before, left);
         }
         let (one, other) = (&self.library, &self.reference);

@@ -9,6 +9,7 @@ mod century;
 mod codes;
 mod columns;
 mod comparer;
+mod corrected;
 mod correction;
 mod damage;
 mod dates;
@@ -26,6 +27,15 @@ mod ffi;
 mod forged;
 mod frames;
 mod heads;
+mod keep_calls;
+mod keep_flows;
+mod keep_meddling;
+mod keep_records;
+mod keep_tally;
+mod keep_vectors;
+mod keeping;
+mod keeps;
+mod kept;
 mod lent;
 mod lines;
 mod list_call;
@@ -72,11 +82,11 @@ use std::process::ExitCode;
 use writing::Writings;
 
 const USAGE: &str = "usage:
-  compare SEED FLOWS CORRECTIONS [SHEETS [SERIES [REBALANCINGS [DROPS]]]]
-                                             compares so many random cases; SERIES, REBALANCINGS and DROPS are 200000
-                                             where they are not given
+  compare SEED FLOWS CORRECTIONS [SHEETS [SERIES [REBALANCINGS [DROPS [KEPT]]]]]
+                                             compares so many random cases; SERIES, REBALANCINGS, DROPS and KEPT are
+                                             200000 where they are not given
   compare again SEED KIND INDEX              compares one of these once more; KIND is flow, correction, sheet, series,
-                                             rebalancing or dropping
+                                             rebalancing, dropping or kept
   compare dates                              compares every six digits as the date of a flow and of a sheet
   compare codes FILE                         compares every last character behind the tax codes' beginnings of a file
   compare frames FILE..                      compares the flows of framed files
@@ -85,6 +95,7 @@ const USAGE: &str = "usage:
   compare portions FILE..                    compares files, a flow each, judged by portions
   compare rebalances FILE..                  compares files, a flow each, rebalanced
   compare drops FILE..                       compares files, a flow each, with deleghe dropped
+  compare keeps FILE..                       compares files, a flow each, with a record of sums beside it
   compare seeds SEED COUNT FOLDER            writes small random flows, a file each, for a fuzzer to start from
   compare vectors SEED COUNT FLOWS STDOUT    writes random flows with the reference's answers
   compare vectors sheets SEED COUNT DATA STDOUT
@@ -97,6 +108,8 @@ const USAGE: &str = "usage:
                                              writes random rebalancings with the reference's answers
   compare vectors drops SEED COUNT DATA STDOUT
                                              writes random droppings with the reference's answers
+  compare vectors keeps SEED COUNT DATA STDOUT
+                                             writes random series of calls with a record, and the reference's answers
 The first difference goes to the folder that COMPARE_FOLDER names, or to 'difference'.";
 
 /// Fewest times that each answer must come up in a full run.
@@ -169,6 +182,7 @@ fn run(words: &[&str]) -> Result<(), Failure> {
         ["portions", ref files @ ..] if !files.is_empty() => series::compare_files(files),
         ["rebalances", ref files @ ..] if !files.is_empty() => rebalances::compare_files(files),
         ["drops", ref files @ ..] if !files.is_empty() => drops::compare_files(files),
+        ["keeps", ref files @ ..] if !files.is_empty() => keeps::compare_files(files),
         ["seeds", seed, count, folder] => seeds(number(seed)?, number(count)?, Path::new(folder)),
         ["vectors", "sheets", seed, count, data, stdout] => {
             sheet_vectors::write(number(seed)?, number(count)?, data, stdout)
@@ -190,11 +204,15 @@ fn run(words: &[&str]) -> Result<(), Failure> {
             drop_vectors::write(number(seed)?, number(count)?, data, stdout)
                 .map_err(|error| Failure::Io(error.to_string()))
         }
+        ["vectors", "keeps", seed, count, data, stdout] => {
+            keep_vectors::write(number(seed)?, number(count)?, data, stdout)
+                .map_err(|error| Failure::Io(error.to_string()))
+        }
         ["vectors", seed, count, flows, stdout] => {
             vectors::write(number(seed)?, number(count)?, flows, stdout).map_err(|error| Failure::Io(error.to_string()))
         }
-        [seed, ref counts @ ..] if (2..=6).contains(&counts.len()) => {
-            let mut all = [0, 0, 0, series::FULL, rebalances::FULL, drops::FULL];
+        [seed, ref counts @ ..] if (2..=7).contains(&counts.len()) => {
+            let mut all = [0, 0, 0, series::FULL, rebalances::FULL, drops::FULL, keeps::FULL];
             for (count, word) in all.iter_mut().zip(counts) {
                 *count = number(word)?;
             }
@@ -212,9 +230,15 @@ fn folder() -> PathBuf {
     PathBuf::from(std::env::var_os("COMPARE_FOLDER").unwrap_or_else(|| "difference".into()))
 }
 
-fn compare(seed: u64, [flows, corrections, sheets, many, mended, dropped]: [u64; 6]) -> Result<(), Failure> {
+fn compare(seed: u64, [flows, corrections, sheets, many, mended, dropped, kept]: [u64; 7]) -> Result<(), Failure> {
     let mut what = format!("{flows} flows, {corrections} corrections");
-    for (count, name) in [(sheets, "sheets"), (many, "series"), (mended, "rebalancings"), (dropped, "droppings")] {
+    for (count, name) in [
+        (sheets, "sheets"),
+        (many, "series"),
+        (mended, "rebalancings"),
+        (dropped, "droppings"),
+        (kept, "series with a record"),
+    ] {
         if count > 0 {
             what += &format!(", {count} {name}");
         }
@@ -250,6 +274,7 @@ fn compare(seed: u64, [flows, corrections, sheets, many, mended, dropped]: [u64;
     let series = series::compare(&pool, seed, many)?;
     let rebalancings = rebalances::compare(&pool, seed, mended)?;
     let droppings = drops::compare(&pool, seed, dropped)?;
+    let keepings = keeps::compare(&pool, seed, kept)?;
 
     comparer.tally.print();
     shapes.print();
@@ -262,6 +287,9 @@ fn compare(seed: u64, [flows, corrections, sheets, many, mended, dropped]: [u64;
     }
     if dropped > 0 {
         droppings.tally.print();
+    }
+    if kept > 0 {
+        keepings.tally.print();
     }
     let judged = (0..=20).chain([26]).map(|way| (comparer.tally.of(0, way), format!("judge {way}"))).min();
     let corrected =
@@ -295,7 +323,8 @@ fn compare(seed: u64, [flows, corrections, sheets, many, mended, dropped]: [u64;
     }
     seldom |= series.is_seldom(many);
     seldom |= rebalances::is_seldom(&rebalancings, mended);
-    if drops::is_seldom(&droppings, dropped) || seldom {
+    seldom |= drops::is_seldom(&droppings, dropped);
+    if keeps::is_seldom(&keepings, kept) || seldom {
         return Err(Failure::Seldom);
     }
     println!("no difference");
@@ -602,6 +631,7 @@ fn again(seed: u64, kind: &str, index: u64) -> Result<(), Failure> {
         "series" => return series::again(&pool, seed, index),
         "rebalancing" => return rebalances::again(&pool, seed, index),
         "dropping" => return drops::again(&pool, seed, index),
+        "kept" => return keeps::again(&pool, seed, index),
         _ => return Err(Failure::Usage),
     };
     compared.map_err(|difference| differs(seed, kind, index, difference))?;

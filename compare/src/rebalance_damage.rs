@@ -77,7 +77,7 @@ pub fn case_of(rng: &mut Rng, pool: &Pool, size: Size) -> Case {
 }
 
 /// The length of a list where so many fields change, or would.
-fn list(rng: &mut Rng, fields: usize) -> usize {
+pub fn list(rng: &mut Rng, fields: usize) -> usize {
     let exact = 2 * fields;
     match rng.below(16) {
         0 | 1 => 0,
@@ -125,7 +125,8 @@ fn spoil(rng: &mut Rng, record: &mut [u8], start: usize, width: usize) {
     }
 }
 
-fn spoil_some(rng: &mut Rng, flow: &mut Flow, most: u64) {
+/// Spoils up to so many stored fields.
+pub fn spoil_some(rng: &mut Rng, flow: &mut Flow, most: u64) {
     let all = fields(flow);
     for _ in 0..rng.between(1, most) {
         let (at, start, width) = rng.pick(&all);
@@ -283,7 +284,7 @@ fn other_lines(rng: &mut Rng, pool: &Pool, size: Size) -> Made {
 }
 
 /// Amounts that keep the line rule.
-fn other_amounts(rng: &mut Rng, section: usize, (debit, credit): (u64, u64)) -> (u64, u64) {
+pub fn other_amounts(rng: &mut Rng, section: usize, (debit, credit): (u64, u64)) -> (u64, u64) {
     let more = |rng: &mut Rng, amount: u64| amount + rng.wide(MOST_AMOUNT - amount).min(rng.wide(1 << 40));
     let (debit, credit) = match rng.below(8) {
         0 => (credit, debit),
@@ -410,7 +411,7 @@ fn faults_and_fields(rng: &mut Rng, pool: &Pool, size: Size) -> Made {
 }
 
 /// A plan of which some value has sixteen digits, mostly.
-fn large_plan(rng: &mut Rng, size: Size) -> Plan {
+pub fn large_plan(rng: &mut Rng, size: Size) -> Plan {
     let amounts = rng.pick(&[Amounts::Small, Amounts::Middle, Amounts::Extreme]);
     let mut plan = sound::plan_with(rng, size, amounts);
     let at = rng.place(plan.deleghe.len());

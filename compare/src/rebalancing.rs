@@ -6,7 +6,7 @@ use crate::calls::{CHANGED_MOST, NO_ROOM, REBALANCE_ROOM};
 use crate::columns::{Kind, MOST_AMOUNT, RECORD};
 use crate::ffi;
 use crate::lent::canary;
-use crate::list_call::{self, Compared, Left, ListCall, Says, Sides};
+use crate::list_call::{self, Asked, Compared, Left, ListCall, Says, Sides};
 use crate::mended::Account;
 use crate::rebalance_damage::{Case, Known, SORTS};
 use crate::report::place;
@@ -17,10 +17,12 @@ use crate::sorts;
 static REBALANCE: ListCall = ListCall {
     what: "a rebalancing",
     name: "f24_rebalance",
-    library: ffi::rebalance,
-    reference: rival::rebalance,
+    library: |lent| ffi::rebalance(lent.flow, lent.list, lent.answer),
+    reference: |lent| rival::rebalance(lent.flow, lent.list, lent.answer),
+    plain: None,
     // More numbers than a list needs.
     most_list: 5000,
+    record: 0,
     needs: REBALANCE_ROOM,
     list_file: None,
     tell_list: |_| String::new(),
@@ -49,13 +51,13 @@ impl Rebalancings {
         let numbers = REBALANCE_ROOM + if rng.one_in(2) { 0 } else { rng.place(5) };
         let left = self.compare_with(rng, &made.flow, *list, numbers, account)?;
         if let Some(why) = made.known.as_ref().and_then(|known| unlike(known, account)) {
-            return Err(self.sides.wrong(why, &made.flow, &[], &left));
+            return Err(self.sides.wrong(why, &made.flow, &[], &[], &left));
         }
         self.tally.count(case, &left);
         sort.iter().for_each(|&sort| self.tally.sorts[sort] += 1);
         if left.code == 0 {
             if let Some(why) = list_call::refused(&left.flow) {
-                return Err(self.sides.wrong(why, &made.flow, &[], &left));
+                return Err(self.sides.wrong(why, &made.flow, &[], &[], &left));
             }
             self.compare_with(rng, &left.flow, 0, REBALANCE_ROOM, &Account::settled(&left.flow))?;
             self.tally.seconds += 1;
@@ -78,9 +80,10 @@ impl Rebalancings {
             [0, ..] if account.changed.len() > list / 2 => [27, 0, 0],
             told => told,
         };
-        let says = Says { told, number: account.changed.len(), list: &changed, flow: &account.after };
+        let number = Some(account.changed.len());
+        let says = Says { told, number, list: &changed, kept: &[], flow: &account.after };
         let list = canary(rng, list);
-        self.sides.compare(rng, flow, list, numbers, &says)
+        self.sides.compare(rng, Asked { flow, list, kept: Vec::new(), room: numbers }, &says)
     }
 }
 

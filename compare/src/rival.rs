@@ -1,7 +1,7 @@
 //! The reference, answering as include/f24.h says that the library does.
 
-use crate::calls::{Call, DROP_ROOM, FOREIGN, NOT_ENDED, NO_ROOM, PORTION_ROOM, REBALANCE_ROOM, STATE_ROOM, SUMS};
-use reference::{Answer, Refusal, State, Summary};
+use crate::calls::*;
+use reference::{Answer, Kept, Refusal, State, Summary};
 
 /// Makes a call on a flow and writes its answer into the room.
 pub fn call(call: &Call, flow: &mut [u8], room: &mut [u64]) -> u64 {
@@ -101,6 +101,62 @@ pub fn drop_deleghe(flow: &mut [u8], numbers: &[u64], answer: &mut [u64]) -> u64
         return NO_ROOM;
     }
     put_answer(answer, reference::drop_deleghe(flow, numbers))
+}
+
+/// Makes the record of a flow's sums and writes the answer.
+pub fn kept(flow: &[u8], kept: &mut [u64], answer: &mut [u64]) -> u64 {
+    if kept.len() < SUMS_ROOM || answer.len() < KEPT_ROOM {
+        return NO_ROOM;
+    }
+    match Kept::made(flow) {
+        Ok(made) => {
+            kept[..SUMS_ROOM].copy_from_slice(&made.numbers());
+            0
+        }
+        Err(refusal) => put_refusal(answer, &refusal),
+    }
+}
+
+/// Corrects a line and writes the record and the answer.
+pub fn correct_kept(
+    flow: &mut [u8],
+    [delega, subtype, place, debit, credit]: [u64; 5],
+    kept: &mut [u64],
+    answer: &mut [u64],
+) -> u64 {
+    if kept.len() < SUMS_ROOM || answer.len() < CORRECT_ROOM {
+        return NO_ROOM;
+    }
+    match with_record(kept, |record| record.correct(flow, delega, subtype, place, debit, credit)) {
+        Ok(()) => 0,
+        Err(refusal) => put_refusal(answer, &refusal),
+    }
+}
+
+/// Rebalances a flow and writes the list of what changed, the record and the answer.
+pub fn rebalance_kept(flow: &mut [u8], changed: &mut [u64], kept: &mut [u64], answer: &mut [u64]) -> u64 {
+    if kept.len() < SUMS_ROOM || answer.len() < REBALANCE_ROOM {
+        return NO_ROOM;
+    }
+    put_answer(answer, with_record(kept, |record| record.rebalance(flow, changed)))
+}
+
+/// Drops the deleghe with these numbers and writes the record and the answer.
+pub fn drop_kept(flow: &mut [u8], numbers: &[u64], kept: &mut [u64], answer: &mut [u64]) -> u64 {
+    if kept.len() < SUMS_ROOM || answer.len() < DROP_ROOM {
+        return NO_ROOM;
+    }
+    put_answer(answer, with_record(kept, |record| record.drop_deleghe(flow, numbers)))
+}
+
+/// Lends the record that stands in the first ten numbers, and writes what comes back.
+fn with_record<T>(kept: &mut [u64], call: impl FnOnce(&mut Kept) -> T) -> T {
+    let mut numbers = [0; SUMS_ROOM];
+    numbers.copy_from_slice(&kept[..SUMS_ROOM]);
+    let mut record = Kept::of(&numbers);
+    let answered = call(&mut record);
+    kept[..SUMS_ROOM].copy_from_slice(&record.numbers());
+    answered
 }
 
 /// Writes the one number that a call answers with, or the refusal.

@@ -92,6 +92,19 @@ impl DelegaPlan {
     }
 }
 
+impl Plan {
+    /// Debit and credit of each section over the deleghe, in turn.
+    pub fn sums(&self) -> [u64; 10] {
+        let mut sums = [0; 10];
+        for section in self.deleghe.iter().flat_map(|delega| &delega.sections) {
+            let (debit, credit) = section.sums();
+            sums[2 * section.section] += debit;
+            sums[2 * section.section + 1] += credit;
+        }
+        sums
+    }
+}
+
 pub const RECEIPTS: [&[Kind]; 3] = [&[], &[Receipt], &[Receipt, Addressee]];
 
 pub fn plan(rng: &mut Rng, size: Size) -> Plan {
@@ -562,9 +575,19 @@ pub fn write(rng: &mut Rng, pool: &Pool, plan: &Plan) -> Flow {
 /// tax codes hang on the seed and on a delega's place in the plan: what is written of
 /// one is the same, but for its number, whichever others are there.
 pub fn write_kept(seed: u64, pool: &Pool, plan: &Plan, kept: impl Fn(usize) -> bool) -> Flow {
+    write_placed(seed, pool, plan, plan.deleghe.iter().enumerate().filter(|&(place, _)| kept(place)))
+}
+
+/// The same of these deleghe, each with the place that it had in the plan.
+pub fn write_placed<'a>(
+    seed: u64,
+    pool: &Pool,
+    plan: &Plan,
+    deleghe: impl Iterator<Item = (usize, &'a DelegaPlan)>,
+) -> Flow {
     let mut rng = Rng::new(seed, 26, 0);
     let mut w = Writer::new(&mut rng, pool, plan);
-    for (place, delega) in plan.deleghe.iter().enumerate().filter(|&(place, _)| kept(place)) {
+    for (place, delega) in deleghe {
         *w.rng = Rng::new(seed, 27, place as u64);
         w.delega(delega);
     }

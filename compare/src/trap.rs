@@ -12,6 +12,7 @@ pub const ROOM: u64 = 6;
 pub const SERIES: u64 = 7;
 pub const REBALANCING: u64 = 8;
 pub const DROPPING: u64 = 9;
+pub const KEPT: u64 = 10;
 
 static KIND: AtomicU64 = AtomicU64::new(0);
 static SEED: AtomicU64 = AtomicU64::new(0);
@@ -49,6 +50,7 @@ extern "C" fn trapped(number: i32) {
         SERIES => b": series ",
         REBALANCING => b": rebalancing ",
         DROPPING => b": dropping ",
+        KEPT => b": kept ",
         DATE => b": date ",
         LINE => b": line ",
         ROOM => b": rooms of every length, call ",
@@ -58,7 +60,7 @@ extern "C" fn trapped(number: i32) {
     if !matches!(KIND.load(Relaxed), DATE | LINE | ROOM) {
         say(b" of seed ");
         say_number(SEED.load(Relaxed));
-        say(b" (once more: again SEED flow|correction|sheet|series|rebalancing|dropping INDEX)");
+        say(b" (once more: again SEED flow|correction|sheet|series|rebalancing|dropping|kept INDEX)");
     }
     say(b"\n");
     // SAFETY: ends the program.

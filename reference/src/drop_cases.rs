@@ -79,12 +79,12 @@ fn split(frames: &[u8]) -> Option<(Case<'_>, &[u8])> {
 }
 
 #[cfg(test)]
-mod tests {
+pub mod tests {
     use super::*;
 
     /// Two deleghe of one line of section 17 each, or one of them with the number
     /// 1 in the other's place.
-    fn flow(amounts: &[u64]) -> String {
+    pub fn flow(amounts: &[u64]) -> String {
         const NAME: &str = "SUPPORT-NAME 0000001";
         let head = format!("{:<120}", format!(" F4          311299{NAME}"));
         let mut records = vec![head];

@@ -2,8 +2,8 @@
 //! the columns of CBI-F24-001. Words in quotation marks are those rules'. The
 //! writer of flows from working sheets is after document 02, and so are the
 //! position of refusal 7 and the date rule, which 02 amends, refusal 26, the
-//! lines and sections of a summary, the judge by portions, the rebalancing and the
-//! dropping of deleghe.
+//! lines and sections of a summary, the judge by portions, the rebalancing, the
+//! dropping of deleghe and the sums that are kept beside a flow.
 //!
 //! Every input is taken, of every length and value. Sums can't overflow: a
 //! flow has at most 546 records with amounts below 10^15.
@@ -17,6 +17,9 @@ mod dropping_tests;
 #[cfg(test)]
 mod foreign_tests;
 mod judgement;
+mod keeping;
+#[cfg(test)]
+mod keeping_tests;
 mod layout;
 #[cfg(test)]
 mod portion_tests;
@@ -33,6 +36,7 @@ mod tests;
 use digits::{non_digit, write_fifteen};
 pub use dropping::drop_deleghe;
 use judgement::{Fault, Judgement, Step, Usage};
+pub use keeping::{Kept, KEPT_NUMBERS};
 use layout::*;
 pub use portions::{judge_portion, Answer, Answered, State, STATE_NUMBERS};
 pub use rebalancing::rebalance;

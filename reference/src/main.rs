@@ -3,6 +3,7 @@
 mod drop_cases;
 #[path = "lib.rs"]
 mod f24;
+mod keep_cases;
 mod portion_cases;
 mod rebalance_cases;
 
@@ -25,7 +26,8 @@ const USAGE: &str = "usage:
   reference sheets FILE
   reference portions FILE
   reference rebalances FILE
-  reference drops FILE";
+  reference drops FILE
+  reference keeps FILE";
 
 /// "reads standard input, up to 65,521 bytes": one more than a flow may have.
 const MOST_READ: u64 = 65_521;
@@ -96,6 +98,7 @@ fn run(words: &[&str], out: &mut impl Write) -> io::Result<()> {
         ["portions", file] => portion_cases::answer(out, &read(file, u64::MAX)?),
         ["rebalances", file] => rebalance_cases::answer(out, &read(file, u64::MAX)?),
         ["drops", file] => drop_cases::answer(out, &read(file, u64::MAX)?),
+        ["keeps", file] => keep_cases::answer(out, &read(file, u64::MAX)?),
         _ => Err(io::Error::new(io::ErrorKind::InvalidInput, USAGE)),
     }
 }

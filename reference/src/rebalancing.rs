@@ -53,8 +53,6 @@ struct Field {
 /// The list has room for half as many as it has numbers. A refusal leaves flow
 /// and list as they came, and a success every number past those listed.
 pub fn rebalance(flow: &mut [u8], changed: &mut [u64]) -> Result<usize, Refusal> {
-    // "the first remaining fault of 01's checks"
-    length(flow)?;
     let fields = stored(flow)?;
 
     // "then 23": no field has been written yet.
@@ -86,9 +84,15 @@ pub fn rebalance(flow: &mut [u8], changed: &mut [u64]) -> Result<usize, Refusal>
     Ok(differing.len())
 }
 
+/// The refusals that stop a rebalancing before anything is worked out.
+pub fn judge_remaining(flow: &[u8]) -> Result<(), Refusal> {
+    stored(flow).map(drop)
+}
+
 /// Every stored field of the flow, in the order of its bytes, with what it is to
-/// hold; or the first remaining fault, 5 included.
+/// hold; or "the first remaining fault of 01's checks", 1, 2 and 5 included.
 fn stored(flow: &[u8]) -> Result<Vec<Field>, Refusal> {
+    length(flow)?;
     let mut judgement = Judgement::new();
     let mut fields = Vec::new();
     for record in flow.chunks_exact(RECORD) {
