@@ -1,5 +1,7 @@
 """The list of corrections, and flows that can be built anew with another amount."""
 
+from copy import copy, deepcopy
+
 from common import fill_unread
 from flow import SECTIONS, delega, flow
 
@@ -12,25 +14,17 @@ class Told:
     """A flow as the builder is told it: a description of each delega. `fill` is written into every column that is not read,
     where the records are those of `common.FULL`."""
 
-    def __init__(self, *deleghe, fill=None, first=None):
-        self.deleghe, self.fill, self.first = deleghe, fill, first
+    def __init__(self, *deleghe, fill=None):
+        self.plain, self.fill = flow(*[delega(**d) for d in deleghe]), fill
 
     def built(self):
-        """The flow. What the builder writes at 79-93 of 50-01, which no correction may touch, stays as it first was."""
-        f = flow(*[delega(**d) for d in self.deleghe])
-        if self.first:
-            for old, new in zip(self.first.built().records, f.records):
-                if new[1:3] == b"50" and new[10:12] == b"01":
-                    new[78:93] = old[78:93]
-        return fill_unread(f, self.fill) if self.fill else f
+        return fill_unread(deepcopy(self.plain), self.fill) if self.fill else self.plain
 
-    def anew(self, number, section, place, debit, credit):
+    def anew(self, *line_and_amounts):
         """The same flow, told with other amounts of one line."""
-        deleghe = [dict(d) for d in self.deleghe]
-        lines = list(deleghe[number - 1][section])
-        lines[place - 1] = (debit, credit, *lines[place - 1][2:])
-        deleghe[number - 1][section] = lines
-        return Told(*deleghe, fill=self.fill, first=self.first or self)
+        other = copy(self)
+        other.plain = self.plain.anew(*line_and_amounts)
+        return other
 
 
 def made(name, told, line, amounts, answer, why):

@@ -28,12 +28,6 @@ def closed_up(name, numbers, before, after, answer, why):
     call(name, numbers, before, after + b" " * (len(before) - length), ["DROPPED %d" % length, "SAME", *answer.printed], why)
 
 
-def numbered(deleghe):
-    """The descriptions, each with its number as its protocol number (record 10, 107-113), where it has none. The builder would fill in the new number; no dropping
-    writes there."""
-    return [{**d, "protocol": d["protocol"] or "%07d" % number} for number, d in enumerate(deleghe, 1)]
-
-
 def marked(built, marks):
     """Writes a character into every column that the judgement does not read: the first of `marks` in F4, the last in EF, those between by delega."""
     number = 0
@@ -52,9 +46,8 @@ def dropped(name, deleghe, numbers, kept, answer, why, /, marks=None, tail=(), *
     """The deleghe of a list are dropped. `kept` has the numbers of the others, in their order; it is written in the case as the list is. `marks` as in `marked`;
     `tail` has texts for EF, (position, text). Gives the descriptions that are left."""
     assert sorted([*numbers, *kept]) == list(range(1, len(deleghe) + 1)) and list(kept) == sorted(kept), name
-    deleghe = numbered(deleghe)
-    left = [deleghe[n - 1] for n in kept]
-    before, after = flow(*deleghe, **ends), flow(*left, **ends)
+    before = flow(*deleghe, **ends)
+    after = before.without(numbers)
     if marks:
         marked(before, marks)
         marked(after, marks[0] + "".join(marks[n] for n in kept) + marks[-1])
@@ -62,7 +55,7 @@ def dropped(name, deleghe, numbers, kept, answer, why, /, marks=None, tail=(), *
         before.put(len(before.records), position, text)
         after.put(len(after.records), position, text)
     closed_up(name, numbers, before, after, answer, why)
-    return left
+    return after.deleghe
 
 
 def refused(name, built, numbers, answer, why):

@@ -60,12 +60,12 @@ def amount(n):
     return "%015d" % (n % 10 ** 15)
 
 
-def delega(erario=(), inps=(), regioni=(), imu=(), ident=(), after=0, payer=None, order=None, protocol=None):
+def delega(erario=(), inps=(), regioni=(), imu=(), ident=(), after=0, payer=None, order=None, protocol=None, credits=None):
     """A payment order. A line is (debit, credit) or (debit, credit, {position: text}). `after` is how many of 50-02 and
-    50-03 follow 50-01. `order` names the sections in another order than 01's table, a name as often as wanted. `protocol` is
-    record 10's 107-113, which no check reads; the delega's number where none is given."""
+    50-03 follow 50-01. `order` names the sections in another order than 01's table, a name as often as wanted. No check reads
+    record 10's 107-113, `protocol`, and 50-01's 79-93, `credits`: they are the delega's number and credits where none are given."""
     lines = {"erario": erario, "inps": inps, "regioni": regioni, "imu": imu, "ident": ident}
-    return {"lines": lines, "order": order or list(SECTIONS), "after": after, "payer": {**PLAIN_PAYER, **(payer or {})}, "protocol": protocol}
+    return {"lines": lines, "order": order or list(SECTIONS), "after": after, "payer": {**PLAIN_PAYER, **(payer or {})}, "protocol": protocol, "credits": credits}
 
 
 def full_name(p):
@@ -99,7 +99,7 @@ def delega_records(number, d, head):
     final = all_debit - all_credit
     out.append(record("50", {4: n, 11: "01", 13: head["bank"], 18: p["cab"], 23: p["account"], 35: p["cin"],
                              36: amount(abs(final)), 51: "0", 54: p["tax_code"], 70: "2", 71: head["paid"],
-                             79: amount(all_credit), 96: "3", 97: "IT", 99: p["iban_check"]}))
+                             79: amount(all_credit if d["credits"] is None else d["credits"]), 96: "3", 97: "IT", 99: p["iban_check"]}))
     if d["after"] >= 1:
         out.append(record("50", {4: n, 11: "02", 13: head["sender_tax_code"], 33: head["bank"], 38: p["cab"], 43: p["client"],
                                  63: "2" if d["after"] >= 2 else "1", 64: full_name(p) if d["after"] >= 2 else ""}))
@@ -109,11 +109,29 @@ def delega_records(number, d, head):
 
 
 class Flow:
-    def __init__(self, records, sums=None, deleghe=()):
+    def __init__(self, records, sums=None, deleghe=(), ends=None):
         self.records = records
         self.sums = sums            # what the builder was told to build: see `flow`
-        self.deleghe = deleghe      # each as `delega` describes it
+        self.deleghe = deleghe      # each as `delega` describes it, with the protocol number and the credits that stand in its records
+        self.ends = ends            # date, name and head, as `flow` takes them
         self.tail = b""
+
+    def told(self, deleghe):
+        """The flow that is built of other descriptions. It is asked of a flow as it was built, not of one with changed bytes."""
+        assert bytes(self) == bytes(flow(*self.deleghe, **self.ends))
+        return flow(*deleghe, **self.ends)
+
+    def anew(self, number, section, place, debit, credit):
+        """The flow built anew with other amounts of one line. No call writes the credits in 50-01: they stay as they were."""
+        d = self.deleghe[number - 1]
+        lines = list(d["lines"][section])
+        lines[place - 1] = (debit, credit, *lines[place - 1][2:])
+        d = {**d, "lines": {**d["lines"], section: lines}}
+        return self.told([*self.deleghe[:number - 1], d, *self.deleghe[number:]])
+
+    def without(self, numbers):
+        """The flow built anew without some deleghe, by their numbers. No call writes the protocol numbers: they stay as they were."""
+        return self.told([d for number, d in enumerate(self.deleghe, 1) if number not in numbers])
 
     def put(self, number, position, text):
         """Writes text into a record."""
@@ -149,13 +167,16 @@ class Flow:
 
 def flow(*deleghe, date=DATE, name=NAME, head=None):
     """F4, the deleghe, EF."""
+    given = {"date": date, "name": name, "head": head}
     head = {**PLAIN_HEAD, **(head or {})}
     ends = {4: head["sender"], 9: head["bank"], 14: date, 20: name, 114: "E"}
     records = [record("F4", {**ends, 105: "2$" + head["bank"]})]
     sums = {"total": 0, "lines": 0, **{s: [0, 0] for s in SECTIONS}}
+    filled = []
     for number, d in enumerate(deleghe, 1):
         rs, debit, credit = delega_records(number, d, head)
         records += rs
+        filled.append({**d, "protocol": d["protocol"] or "%07d" % number, "credits": credit if d["credits"] is None else d["credits"]})
         sums["total"] += debit - credit
         for s, lines in d["lines"].items():
             times = d["order"].count(s)
@@ -164,4 +185,4 @@ def flow(*deleghe, date=DATE, name=NAME, head=None):
             sums[s][1] += times * sum(x[1] for x in lines)
     records.append(record("EF", {**ends, 46: "%07d" % len(deleghe), 53: amount(sums["total"]), 68: "0" * 15,
                                  83: "%07d" % (len(records) + 1)}))
-    return Flow(records, (len(deleghe), len(records), sums), deleghe)
+    return Flow(records, (len(deleghe), len(records), sums), filled, given)

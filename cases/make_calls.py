@@ -1,4 +1,5 @@
-"""Writes the run cases of the other calls: corrections, the calls that read, flows written from sheets, flows judged by portions, flows that are rebalanced, and deleghe that are dropped. Run from anywhere: python3 cases/make_calls.py"""
+"""Writes the run cases of the other calls: corrections, the calls that read, flows written from sheets, flows judged by portions, flows that are rebalanced, deleghe that are dropped, and series of
+calls with sums kept beside the flow. Run from anywhere: python3 cases/make_calls.py"""
 
 import re
 import sys
@@ -8,8 +9,10 @@ sys.dont_write_bytecode = True
 
 import corrections      # adds its cases to the list
 import sheets, sheet_faults, samples        # these too
+import keepings, keeping_faults     # and these
 import correction
 import droppings
+import keeping
 import portions
 import readings
 import rebalancings
@@ -24,6 +27,25 @@ def written(crate, calls, more=()):
     framed(crate, "calls", calls, more)
 
 
+def header(name, numbers, length):
+    """The 152 bytes before the LF of a case's line, or of a step's."""
+    assert len(numbers) == 5 and all(0 <= n < 2 ** 64 for n in numbers), name
+    return b"%-40s %020d %020d %020d %020d %020d %06d" % (name.encode(), *numbers, length)
+
+
+def digits(numbers):
+    """Numbers of a list, each in 20 digits with a space behind it."""
+    return b"".join(b"%020d " % n for n in numbers)
+
+
+def series(before, steps):
+    """The parts of a series: the flow, then for each step its line, the bytes expected, the record it is lent and its list."""
+    parts = [before]
+    for word, numbers, after, lent, listed in steps:
+        parts += [header(word, numbers, len(after)), after, digits((0,) * 11 if lent is None else (1, *lent)), digits(listed)]
+    return parts
+
+
 def framed(crate, file, calls, more=()):
     """The same where the parts may be of several lengths: the header has that of the first. `more` lines follow in the expected output."""
     names = [name for name, *_ in calls]
@@ -31,9 +53,8 @@ def framed(crate, file, calls, more=()):
     assert all(re.fullmatch(r"[a-z0-9]+(-[a-z0-9]+)*", n) and len(n) <= 40 for n in names), names
     data, stdout = bytearray(), []
     for name, numbers, parts, lines, why in calls:
-        assert why and len(numbers) == 5 and all(0 <= n < 2 ** 64 for n in numbers), name
-        data += b"%-40s %020d %020d %020d %020d %020d %06d\n" % (name.encode(), *numbers, len(parts[0]))
-        data += b"".join(part + b"\n" for part in parts)
+        assert why, name
+        data += b"".join(part + b"\n" for part in (header(name, numbers, len(parts[0])), *parts))
         stdout += [name, *lines]
     folder = ROOT / "crates" / crate
     (folder / "data").mkdir(parents=True, exist_ok=True)
@@ -56,5 +77,7 @@ framed("portion_cases", "calls", [(name, numbers, (flow, b" ".join(b"%020d" % n 
        answers("portion_vectors.answers"))
 written("mend_cases", [(name, (length, 0, 0, 0, 0), (before, after), lines, why) for name, length, before, after, lines, why in rebalancings.CALLS],
         answers("rebalance_vectors.answers"))
-framed("drop_cases", "calls", [(name, (len(numbers), 0, 0, 0, 0), (before, after, b"".join(b"%020d " % n for n in numbers)), lines, why)
+framed("drop_cases", "calls", [(name, (len(numbers), 0, 0, 0, 0), (before, after, digits(numbers)), lines, why)
                                for name, numbers, before, after, lines, why in droppings.CALLS], answers("drop_vectors.answers"))
+framed("kept_cases", "calls", [(name, (len(steps), 0, 0, 0, 0), series(before, steps), lines, why) for name, before, steps, lines, why in keeping.CALLS],
+       answers("kept_vectors.answers"))

@@ -6,6 +6,8 @@ ghost use lib.ListN.{length};
 ghost use Rattle.args.specs.Decimal.{decimalOf};
 ghost use Rattle.libc.specs.Io.{Moved};
 ghost use Rattle.desk.specs.Header.{orZero, numbersOf, sizeOf, lengthIn, numberIn, numbersIn};
+ghost use Rattle.desk.specs.Marks.{marks};
+use crate::FIRST_MARK;
 use crate::Numbers;
 use args::Argument;
 use libc::STDOUT_FILENO;
@@ -82,6 +84,17 @@ pub fn put_numbers(list: &mut [u64], text: &[u8])
     let mut i: usize = 0;
     while i < list.len() {
         list[i] = number_in(text, i);
+        i += 1;
+    }
+}
+
+// Marks every number of a list.
+pub fn mark(list: &mut [u64])
+    ensures { λ _. ⌜ now (list .exit) ≡ marks (length (now (list .entry))) ⌝ }
+{
+    let mut i: usize = 0;
+    while i < list.len() {
+        list[i] = FIRST_MARK + i as u64;
         i += 1;
     }
 }

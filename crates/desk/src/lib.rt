@@ -16,6 +16,7 @@ pub use answers::print_judgement;
 pub use answers::print_line;
 pub use answers::print_record;
 pub use answers::print_refusal;
+pub use cases::mark;
 pub use cases::next_case;
 pub use cases::numbers_of;
 pub use cases::open_cases;
@@ -62,3 +63,6 @@ pub struct Numbers {
 
 // No file of run cases has more.
 pub const MOST_CASES: usize = 10000;
+
+// What stands in the list of a run case before the call: numbers that no call writes, each its own, so that one that moved, or that is told and not listed, is seen.
+pub const FIRST_MARK: u64 = 9_000_000_000;

@@ -9,23 +9,11 @@ use mend::Mending;
 // The longest list of a case.
 const MOST_LIST: usize = 5_000;
 
-// What stands in a list before the call: numbers that no call writes, each its own, so that one that moved is seen.
-const FIRST_MARK: u64 = 9_000_000_000;
-
-// Marks every number of a list.
-fn mark(list: &mut [u64]) {
-    let mut i: usize = 0;
-    while i < list.len() {
-        list[i] = FIRST_MARK + i as u64;
-        i += 1;
-    }
-}
-
 // Whether every number of a list is as it was marked, from one of them on.
 fn is_marked(list: &[u64], from: usize) -> bool {
     let mut i = from;
     while i < list.len() {
-        if list[i] != FIRST_MARK + i as u64 {
+        if list[i] != desk::FIRST_MARK + i as u64 {
             return false;
         }
         i += 1;
@@ -81,7 +69,7 @@ fn make_with(flow: &mut [u8], expected: &[u8], size: usize) -> bool {
         return false;
     }
     let mut list = [0u64; MOST_LIST];
-    mark(&mut list);
+    desk::mark(&mut list);
     make(flow, expected, &mut list[0..size]);
     true
 }
