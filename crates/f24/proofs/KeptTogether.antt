@@ -8,6 +8,7 @@ use native.Mathlib.Omega.{arith}
 use lib.ListN.{length, take, getD}
 use Rattle.amounts.specs.declared.Sums.{Sums}
 use Rattle.state.specs.Numbers.{overlay, sumsNumbers, sumsAt}
+use Rattle.state.proofs.Rooms.{five-sums, five-of}
 use Rattle.judge.specs.declared.Verdict.{Verdict}
 use Rattle.judge.specs.declared.Verdict.the-variants as Judge
 use Rattle.judge.specs.Refusal.{Refusal, refusalOf}
@@ -33,14 +34,8 @@ use Rattle.f24.specs.LinkedKept.{rebalanceKeptCode, rebalanceKeptFlow, r
 
 -- The record that is written to a room is read back from it.
 pub record-back : (s : List Sums) (room : List ℕ) → length s ≡ 5 → keptIn (overlay (sumsNumbers s) room) ≡ record { sums = s }
-unfolding overlay sumsNumbers sumsAt
-record-back (a ∷ b ∷ c ∷ d ∷ e ∷ []) room h = refl
-record-back (a ∷ b ∷ c ∷ d ∷ e ∷ f ∷ s) room h = absurd (omega arith)
-record-back [] room h = absurd (omega arith)
-record-back (a ∷ []) room h = absurd (omega arith)
-record-back (a ∷ b ∷ []) room h = absurd (omega arith)
-record-back (a ∷ b ∷ c ∷ []) room h = absurd (omega arith)
-record-back (a ∷ b ∷ c ∷ d ∷ []) room h = absurd (omega arith)
+unfolding overlay sumsAt
+record-back s room h = rw (five-sums s h) (ap (λ (l : List Sums). record { sums = l }) (five-of s h))
 
 -- So is the record of a flow.
 flow-back : (f room : List ℕ) → keptIn (overlay (sumsNumbers (keptOf f .sums)) room) ≡ keptOf f

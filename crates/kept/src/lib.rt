@@ -94,7 +94,7 @@ fn lenient_mismatch(flow: &[u8]) -> Mismatch
     }
 }
 
-// Corrects one line of a flow for whose lines the record stands. The flow is judged by the plain call, and once more only where the record does not stand for it.
+// Corrects one line of a flow for whose lines the record stands. The flow is judged by the plain call, and by itself only where the record does not stand for it.
 pub fn correct_kept(
     flow: &mut [u8],
     delega: u64,
