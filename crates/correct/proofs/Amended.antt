@@ -12,7 +12,7 @@ use Rattle.text.specs.Placing.{putAt}
 use Rattle.text.proofs.Bytes.{part-length}
 use Rattle.text.proofs.Allowed.{allowed-digits}
 use Rattle.text.proofs.Numerals.{number-digits, length-digits, digits-of-number}
-use Rattle.text.proofs.Puts.{length-put, put-here, put-after, put-before, put-same, put-allowed, put-over, puts-commute}
+use Rattle.text.proofs.Puts.{put-here, put-after, put-before, put-same, put-allowed}
 use Rattle.layout.specs.declared.Kind.the-variants.{Line}
 use Rattle.layout.specs.Sections.{sectionAt}
 use Rattle.layout.specs.Kinds.{typeOf, kindOf, typeIn, kindIn}
@@ -20,6 +20,8 @@ use Rattle.layout.specs.Fields.{amountAt, bytesOf, valueOf}
 use Rattle.layout.proofs.Table.{row-rule}
 use Rattle.rebalance.proofs.Written.{byte-of}
 use Rattle.layout.proofs.InTable.{line-within}
+use Rattle.correct.specs.Writing.{amountsPut, Room}
+use Rattle.correct.proofs.Putting.{credit-in, debit-in, length-amounts}
 
 -- The record of a line of section s with other amounts.
 unfoldable pub amended : ℕ → ℕ → ℕ → List ℕ → List ℕ
@@ -27,19 +29,23 @@ amended s x y r = putAt (sectionAt s .debit) (digitsOf 15 x) (putAt (sectionAt s
 
 -- A record of 120 bytes, and a section of the table.
 module _ (s : ℕ) (w : s < 5) (r : List ℕ) (l : length r ≡ 120) where
+  -- Debit and credit lie within it.
+  room : Room r (sectionAt s .debit) (sectionAt s .credit)
+  room = record { apart = omega (arith, row-rule s w); inside = omega (arith, row-rule s w) }
+
   -- Fifteen digits have room at the credit.
   pub credit-room : (y : ℕ) → sectionAt s .credit + length (digitsOf 15 y) ≤ length r
-  credit-room y = omega (arith, row-rule s w, length-digits 15 y)
+  credit-room = credit-in r _ _ room
 
   -- So they have at the debit, after the credit is put.
   pub debit-room : (x y : ℕ) → sectionAt s .debit + length (digitsOf 15 x) ≤ length (putAt (sectionAt s .credit) (digitsOf 15 y) r)
-  debit-room x y = omega (arith, row-rule s w, length-digits 15 x, length-put (sectionAt s .credit) (digitsOf 15 y) r (credit-room y))
+  debit-room = debit-in r _ _ room
 
   module _ (x y : ℕ) where
     -- Other amounts leave the record its length.
     pub length-amended : length (amended s x y r) ≡ 120
-    unfolding amended
-    length-amended = length-put _ _ _ (debit-room x y) ∙ (length-put _ _ r (credit-room y) ∙ l)
+    unfolding amended amountsPut
+    length-amended = length-amounts r _ _ room x y ∙ l
 
     -- The first twelve characters stay.
     pub amended-part : (n m : ℕ) → m + n ≤ 12 → take n (drop m (amended s x y r)) ≡ take n (drop m r)
@@ -76,15 +82,6 @@ module _ (s : ℕ) (w : s < 5) (r : List ℕ) (l : length r ≡ 120) where
     credit-amended h =
         rw (put-after (sectionAt s .debit) (digitsOf 15 x) (putAt (sectionAt s .credit) (digitsOf 15 y) r) (debit-room x y) (sectionAt s .credit) (omega (arith, row-rule s w, length-digits 15 x)))
         (ap numberOf (put-here _ _ r (credit-room y) (sectionAt s .credit + 15 - sectionAt s .credit) (omega (arith, length-digits 15 y))) ∙ number-digits 15 y h)
-
-    -- Other amounts again leave nothing of these.
-    pub amended-again : (u v : ℕ) → amended s u v (amended s x y r) ≡ amended s u v r
-    unfolding amended
-    amended-again u v =
-        let a = put-over _ (digitsOf 15 x) (putAt (sectionAt s .credit) (digitsOf 15 v) r) (debit-room x v) (digitsOf 15 u) (length-digits 15 u ∙ sym (length-digits 15 x)) in
-        let b = puts-commute (sectionAt s .debit) (digitsOf 15 x) (sectionAt s .credit) (digitsOf 15 v) (putAt (sectionAt s .credit) (digitsOf 15 y) r) (omega (arith, row-rule s w, length-digits 15 x)) (omega (arith, credit-room v, length-put (sectionAt s .credit) (digitsOf 15 y) r (credit-room y))) in
-        let e = put-over _ (digitsOf 15 y) r (credit-room y) (digitsOf 15 v) (length-digits 15 v ∙ sym (length-digits 15 y)) in
-        rw (← b, e, a)
 
   -- A field of fifteen digits holds the digits of its number.
   digits-held : (c : ℕ) → c + 15 ≤ 120 → numberOf (bytesOf r (amountAt c)) ≡ Number (valueOf r (amountAt c)) → take 15 (drop c r) ≡ digitsOf 15 (valueOf r (amountAt c))

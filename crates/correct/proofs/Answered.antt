@@ -102,7 +102,7 @@ module _ (f : List ℕ) (d subtype n x y : ℕ) where
       overflow-is p = only-these-can-overflow f d subtype n a h x y p
 
       -- They are tried where the amounts fit and keep the line rule.
-      weighed-is : x ≤ 999_999_999_999_999 → y ≤ 999_999_999_999_999 → lineRight s x y ≡ true → answer ≡ weighed (withAmounts f d subtype n x y)
+      pub weighed-is : x ≤ 999_999_999_999_999 → y ≤ 999_999_999_999_999 → lineRight (sectionOf subtype) x y ≡ true → correctionOf f d subtype n x y ≡ weighed (withAmounts f d subtype n x y)
       weighed-is i j r = tried-is (line-found f d subtype n a h) ∙ tried-weighed k s x y f i j r
 
   -- A correction that may be made has all tests of the definition passed, and is made.

@@ -1,3 +1,4 @@
+pub mod Putting
 pub mod Amended
 pub mod Mended
 pub mod Split
@@ -14,9 +15,14 @@ pub mod Answered
 pub mod Refusals
 pub mod Conditions
 pub mod StaysAccepted
-pub mod Rewritten
+pub mod LikeFlows
 pub mod SameAmounts
+pub mod TwoLines
 pub mod Back
+pub mod Calls
+pub mod EitherOrder
+pub mod AnyOrder
+pub mod OtherDeleghe
 pub mod OnlyNamed
 pub mod Named
 pub mod OneAnswer

@@ -4,8 +4,8 @@ use mathlib.Core.Path.{_≡_, sym, ap, _∙_}
 use mathlib.Core.Bool.{true}
 use mathlib.Core.List.{List, [], _∷_, _++_}
 use native.Mathlib.Omega.{arith}
-use lib.ListN.{length, getD, drop, length-drop}
-use lib.Seq.{getD-at, length-take-le}
+use lib.ListN.{length, drop, length-drop}
+use lib.Seq.{length-take-le}
 use Rattle.text.proofs.Numerals.{number-below}
 use Rattle.layout.specs.Sections.{sectionAt}
 use Rattle.layout.specs.Fields.{amountAt, bytesOf, valueOf}
@@ -24,10 +24,10 @@ use Rattle.rebalance.proofs.Judged.{flat-records, accepted-untouched, accepted-
 use Rattle.find.specs.Line.{lineOf}
 use Rattle.correct.specs.declared.Correction.the-variants.{Made}
 use Rattle.correct.specs.Correction.{sectionOf, correctionOf, correctedBytes}
-use Rattle.correct.specs.Effect.{withAmounts, recordNamed, debitOf, creditOf}
+use Rattle.correct.specs.Effect.{withAmounts, debitOf, creditOf}
 use Rattle.correct.proofs.Amended.{amended, amended-own}
 use Rattle.correct.proofs.Mended.{kept-readable}
-use Rattle.correct.proofs.Split.{Split, line-splits, length-here, within-table, replaced-flat}
+use Rattle.correct.proofs.Split.{Split, line-splits, named-here, length-here, within-table, replaced-flat}
 use Rattle.correct.proofs.Conditions.{made-passed, made-bytes}
 use Rattle.correct.proofs.StaysAccepted.{accepted-whole}
 
@@ -62,10 +62,6 @@ module _ (f : List ℕ) (d subtype n : ℕ) (a : judged f .verdict ≡ Accepted)
   abbrev w : Whole f
   w = accepted-whole f a
 
-  -- The record that is named is the line.
-  named-here : recordNamed f d subtype n ≡ p .here
-  named-here = ap (λ (l : List (List ℕ)). getD l (lineOf f d subtype n - 1) []) (p .split) ∙ getD-at (p .before) (p .here) (p .behind) [] (lineOf f d subtype n - 1) (omega (arith, p .counted))
-
   -- Its debit and credit are amounts of the line.
   pub own : Own s (debitOf f d subtype n) (creditOf f d subtype n) (p .here)
   own =
@@ -73,7 +69,7 @@ module _ (f : List ℕ) (d subtype n : ℕ) (a : judged f .verdict ≡ Accepted)
       let i = within-table f (w .even) p in
       let m = mendable-behind (headNameOf f) startState (p .before) (p .here ∷ p .behind) (rw (p .split) at (accepted-mends f a)) in
       let k = kept-readable (headNameOf f) (stateAfter startState (p .before)) (p .here) l s (p .kind) (m .1) in
-      rw named-here
+      rw (named-here f d subtype n h)
       (record {
         debit-fits = amount-small (p .here) (sectionAt s .debit) l (omega (arith, row-rule s i));
         credit-fits = amount-small (p .here) (sectionAt s .credit) l (omega (arith, row-rule s i));
@@ -82,7 +78,7 @@ module _ (f : List ℕ) (d subtype n : ℕ) (a : judged f .verdict ≡ Accepted)
       })
 
   -- They leave the flow.
-  own-flow : withAmounts f d subtype n (debitOf f d subtype n) (creditOf f d subtype n) ≡ f
+  pub own-flow : withAmounts f d subtype n (debitOf f d subtype n) (creditOf f d subtype n) ≡ f
   own-flow = replaced-flat f (w .even) p _ _ ∙ (ap (λ (r : List ℕ). flat (p .before ++ (r ∷ p .behind))) (own .same) ∙ (ap flat (sym (p .split)) ∙ flat-records f (w .even)))
 
   -- A correction to a line's own amounts is made, and leaves every byte.

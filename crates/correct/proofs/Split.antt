@@ -6,8 +6,8 @@ use mathlib.Core.List.{List, [], _∷_, _++_, append-assoc}
 use native.Mathlib.Omega.{arith}
 use borrow.Author.Tests.{eqb-true}
 use lib.Dec.{eqb}
-use lib.ListN.{length, length-append}
-use lib.Seq.{take-append-le, drop-append-le, take-append-add, drop-append-add}
+use lib.ListN.{length, getD, length-append}
+use lib.Seq.{getD-at, take-append-le, drop-append-le, take-append-add, drop-append-add}
 use Rattle.text.specs.Numbers.{digitsOf}
 use Rattle.text.specs.Placing.{putAt}
 use Rattle.layout.specs.declared.Kind.{Kind}
@@ -30,6 +30,7 @@ use Rattle.rebalance.proofs.Judged.{sized-records, flat-records}
 use Rattle.find.specs.Line.{isLine, lineFrom, lineOfKind, lineOf}
 use Rattle.find.proofs.NamedLine.{named-line, line-of-named}
 use Rattle.correct.specs.Correction.{sectionOf, replaced}
+use Rattle.correct.specs.Effect.{recordNamed}
 use Rattle.correct.specs.WhenRefused.{HasLine}
 use Rattle.correct.proofs.Amended.{amended, credit-room, debit-room, length-amended}
 
@@ -90,6 +91,12 @@ line-splits f d subtype n h = go (sectionKind subtype) h
     go Addressee h = absurd (h refl)
     go Tail h = absurd (h refl)
     go Unknown h = absurd (h refl)
+
+-- The record that is named is the line.
+pub named-here : (f : List ℕ) (d subtype n : ℕ) (h : lineOf f d subtype n ≡ 0 → ⊥) → recordNamed f d subtype n ≡ line-splits f d subtype n h .here
+named-here f d subtype n h =
+    let p = line-splits f d subtype n h in
+    ap (λ (l : List (List ℕ)). getD l (lineOf f d subtype n - 1) []) (p .split) ∙ getD-at (p .before) (p .here) (p .behind) [] (lineOf f d subtype n - 1) (omega (arith, p .counted))
 
 -- In an accepted flow it is the line that is named over the plain records.
 pub line-found : (f : List ℕ) (d subtype n : ℕ) → judged f .verdict ≡ Accepted → HasLine f d subtype n → lineOf f d subtype n ≡ 0 → ⊥

@@ -10,7 +10,7 @@ use Rattle.text.specs.Numbers.{digitsOf}
 use Rattle.text.specs.Placing.{putAt, numberBytes}
 use Rattle.text.proofs.Bytes.{part-length}
 use Rattle.text.proofs.Numerals.{length-digits}
-use Rattle.text.proofs.Puts.{length-put, put-before, put-same, put-over, put-back}
+use Rattle.text.proofs.Puts.{put-before, put-same, put-over, put-back}
 use Rattle.text.proofs.Fits.{number-fits, number-written}
 use Rattle.layout.specs.Sections.{sectionAt}
 use Rattle.layout.proofs.Table.{row-rule}
@@ -23,6 +23,7 @@ use Rattle.rebalance.specs.Weigh.{anyNegative}
 use Rattle.correct.specs.declared.Correction.the-variants.{Made, Refused}
 use Rattle.correct.specs.Correction.{replaced, outcomeOf, weighed, tried}
 use Rattle.correct.specs.Writing.{amountsPut, Room, Fifteen, KthLine}
+use Rattle.correct.proofs.Putting.{credit-in, length-credit, debit-in, length-amounts}
 
 module _ (f : List ℕ) (d c : ℕ) (room : Room f d c) where
   -- The bytes of an amount lie within the flow.
@@ -30,20 +31,6 @@ module _ (f : List ℕ) (d c : ℕ) (room : Room f d c) where
   old-length m h = part-length 15 m f (let i = room .inside in omega arith)
 
   module _ (x y : ℕ) where
-    credit-in : c + length (digitsOf 15 y) ≤ length f
-    credit-in = let i = room .inside in omega (arith, length-digits 15 y)
-
-    length-credit : length (putAt c (digitsOf 15 y) f) ≡ length f
-    length-credit = length-put c (digitsOf 15 y) f credit-in
-
-    debit-in : d + length (digitsOf 15 x) ≤ length (putAt c (digitsOf 15 y) f)
-    debit-in = let i = room .inside in let a = room .apart in omega (arith, length-digits 15 x, length-credit)
-
-    -- With other amounts the flow has as many bytes.
-    pub length-amounts : length (amountsPut d c x y f) ≡ length f
-    unfolding amountsPut
-    length-amounts = length-put d (digitsOf 15 x) (putAt c (digitsOf 15 y) f) debit-in ∙ length-credit
-
     -- Two numbers of fifteen digits, put one after the other.
     pub amounts-written : (l₁ l₂ : List ℕ) → Fifteen x → Fifteen y → l₁ ≡ numberBytes c 15 y f → l₂ ≡ numberBytes d 15 x l₁ → l₂ ≡ amountsPut d c x y f
     unfolding amountsPut
@@ -51,7 +38,7 @@ module _ (f : List ℕ) (d c : ℕ) (room : Room f d c) where
         let i = room .inside in
         let a = room .apart in
         let p = e₁ ∙ number-written c 15 y f (number-fits c 15 y (length f) i (hy .digits)) .1 in
-        let n : length l₁ ≡ length f = ap length p ∙ length-credit in
+        let n : length l₁ ≡ length f = ap length p ∙ length-credit f d c room y in
         e₂ ∙ (number-written d 15 x l₁ (number-fits d 15 x (length l₁) (omega arith) (hx .digits)) .1 ∙ ap (putAt d (digitsOf 15 x)) p)
 
     -- What stood there, put back, restores the flow.
@@ -63,12 +50,12 @@ module _ (f : List ℕ) (d c : ℕ) (room : Room f d c) where
         let n = length-digits 15 x in
         let m = length-digits 15 y in
         let g = putAt c (digitsOf 15 y) f in
-        let same : take 15 (drop d g) ≡ take 15 (drop d f) = put-before c (digitsOf 15 y) f credit-in 15 d a in
+        let same : take 15 (drop d g) ≡ take 15 (drop d f) = put-before c (digitsOf 15 y) f (credit-in f d c room y) 15 d a in
         let inner : putAt d (take 15 (drop d f)) (putAt d (digitsOf 15 x) g) ≡ g =
-        put-over d (digitsOf 15 x) g debit-in (take 15 (drop d f)) (od ∙ sym n)
-        ∙ put-same d (take 15 (drop d f)) g (omega (arith, length-credit, room .inside)) (rw od same)
+        put-over d (digitsOf 15 x) g (debit-in f d c room x y) (take 15 (drop d f)) (od ∙ sym n)
+        ∙ put-same d (take 15 (drop d f)) g (omega (arith, length-credit f d c room y, room .inside)) (rw od same)
         in
-        ap (putAt c (take 15 (drop c f))) inner ∙ (ap (λ (w : ℕ). putAt c (take w (drop c f)) g) (sym m) ∙ put-back c (digitsOf 15 y) f credit-in)
+        ap (putAt c (take 15 (drop c f))) inner ∙ (ap (λ (w : ℕ). putAt c (take w (drop c f)) g) (sym m) ∙ put-back c (digitsOf 15 y) f (credit-in f d c room y))
 
     -- So do the bytes that were copied before the writing.
     pub restored : (u v g : List ℕ) → u ≡ take 15 (drop d f) → v ≡ take 15 (drop c f) → g ≡ amountsPut d c x y f → putAt c v (putAt d u g) ≡ f

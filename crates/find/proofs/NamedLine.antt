@@ -1,21 +1,24 @@
 -- Of an accepted flow the line that is found is the one that is named, over the plain records: the n-th line of that subtype that carries that delega's number.
-use Prim.Native.Nat.{ℕ, _-_}
-use mathlib.Core.Path.{_≡_, refl, sym, ap, _∙_}
-use mathlib.Core.Bool.{Bool, true, false, cond}
+use Prim.Native.Nat.{ℕ, _+_, _-_}
+use mathlib.Core.Path.{_≡_, refl, sym, ap, ap₂, _∙_}
+use mathlib.Core.Bool.{Bool, true, false, cond, false≢true}
 use mathlib.Core.List.{List}
 use mathlib.Core.Logic.{_↔_, inl, inr}
 use native.Mathlib.Omega.{arith}
 use native.Mathlib.Decide.{ℕ-discrete}
 use borrow.Author.Tests.{eqb-true, eqb-false, eq-eqb, ne-eqb}
 use lib.Dec.{eqb}
+use lib.ListN.{take}
 use Rattle.layout.specs.declared.Kind.the-variants.{Line}
 use Rattle.layout.specs.Sections.{sectionAt}
-use Rattle.layout.specs.Kinds.{sectionKind, kindIn}
+use Rattle.layout.specs.Kinds.{ofLine, sectionKind, kindIn}
 use Rattle.layout.specs.Fields.{delegaNumber, valueOf}
 use Rattle.layout.proofs.OtherKinds.{no-line}
+use Rattle.text.proofs.Tests.{both-true}
 use Rattle.rules.specs.State.{startState}
 use Rattle.judge.specs.declared.Verdict.the-variants.{Accepted}
 use Rattle.judge.specs.Flow.{recordsOf, headNameOf, judged}
+use Rattle.judge.specs.Part.{recordAt}
 use Rattle.judge.proofs.Accepted.{accepted-means-no-fault}
 use Rattle.judge.proofs.Records.{record-number}
 use Rattle.judge.specs.Refusal.{Refusal, refusal}
@@ -152,3 +155,23 @@ pub absent-exactly : (f : List ℕ) (d subtype n : ℕ) → judged f .verdict �
 absent-exactly f d subtype n a =
     let w = absent-answered f d subtype n a in
     (λ e. w .0 (told-as _ 21 0 0 (λ z. omega arith) e), λ h. ap refusalFound (w .1 h))
+
+-- a line so named has that subtype, and carries that number
+said : (d subtype : ℕ) (r : List ℕ) → lineWith d subtype r ≡ true → (ofLine 0 (λ s. sectionAt s .«line_subtype») (kindIn r) ≡ subtype) × (valueOf r delegaNumber ≡ d)
+unfolding lineWith
+said d subtype r e = go (line-or-other (kindIn r))
+  where
+    go : LineOrOther (kindIn r) → (ofLine 0 (λ s. sectionAt s .«line_subtype») (kindIn r) ≡ subtype) × (valueOf r delegaNumber ≡ d)
+    go (inl x) =
+        let a = both-true (eqb (sectionAt (x .0) .«line_subtype») subtype) _ (rw (x .1) at e) in
+        (rw (x .1) (eqb-true _ _ (a .0)), eqb-true _ _ (a .1))
+    go (inr x) = absurd (false≢true (sym (no-line false _ (kindIn r) x) ∙ e))
+
+-- one record has one name
+pub one-name : (f : List ℕ) (d subtype n e t m k : ℕ) → NthLine f d subtype n k → NthLine f e t m k → (d ≡ e) × (subtype ≡ t) × (n ≡ m)
+one-name f d subtype n e t m k h i =
+    let a = said d subtype (recordAt f k) (h .line) in
+    let b = said e t (recordAt f k) (i .line) in
+    let p : d ≡ e = sym (a .1) ∙ b .1 in
+    let q : subtype ≡ t = sym (a .0) ∙ b .0 in
+    (p, q, sym (h .before) ∙ (ap₂ (λ (x y : ℕ). countOf x y (take (k - 1) (recordsOf f)) + 1) p q ∙ i .before))

@@ -64,7 +64,7 @@ module _ (st : State) (r s : List ℕ) (a : Alike (writtenFields (kindIn r)) r s
   emit-alike = put-same ∙ ap (λ (k : Kind). putAll (storedOf st k) s) (sym same-kind)
 
   next-alike : next st r ≡ next st s
-  next-alike = sym (next-emit st r (a .one)) ∙ (ap (next st) emit-alike ∙ next-emit st s (a .other))
+  next-alike = sym (next-emit st r (a .one) st) ∙ (ap (next st) emit-alike ∙ next-emit st s (a .other) st)
 
 -- Records of 120 bytes that are alike there within 120 bytes are alike.
 alike-within : (r s : List ℕ) → length r ≡ 120 → length s ≡ 120 → ((c : ℕ) → c < 120 → inColumns c (writtenFields (kindIn r)) ≡ false → getD r c 0 ≡ getD s c 0) → Alike (writtenFields (kindIn r)) r s

@@ -61,6 +61,6 @@ module _ (name : List ℕ) (st : State) (r : List ℕ) (l : length r ≡ 120) (c
   pub kept-then-stored : fault name st (emit st r) ≡ first (keptFault name st r) (wrong (storedOf st (kindIn r)) (emit st r))
   unfolding keptFault fault
   kept-then-stored =
-      let k = emit-kept st r l name in
+      let k = emit-kept st r l name st in
       let d = kept-digits (storing st r) (emit st r) (holds-numbers (storedOf st (kindIn r)) (emit st r) holds) ∙ k .fields in
       rw (emit-type st r l, emit-kind st r l, emit-number st r l, characters, c, d, k .own) (four-first (standing (st .stage) (typeIn r) (kindIn r)) (badFields (keptFields (kindIn r)) r) (numberFault (st .deleghe) (kindIn r) (valueOf r delegaNumber)) (ownFault name st (kindIn r) r) (wrong (storedOf st (kindIn r)) (emit st r)))

@@ -2,24 +2,29 @@
 use Prim.Native.Nat.{ℕ}
 use mathlib.Core.Path.{_≡_, refl, sym, ap, ap₂, _∙_}
 use mathlib.Core.Bool.{Bool, true, false, cond}
-use mathlib.Core.List.{List, []}
+use mathlib.Core.List.{List, [], _∷_}
 use lib.ListN.{length, take, drop, getD}
 use Rattle.text.specs.declared.Characters.the-variants.{Allowed}
 use Rattle.text.specs.Characters.{firstBad}
 use Rattle.text.specs.Numbers.{numberOf, amountOf}
 use Rattle.layout.specs.declared.Kind.{Kind}
+use Rattle.layout.specs.declared.Kind.the-variants.{Balance, Payment, Tail}
+use Rattle.layout.specs.Sections.{sectionAt}
 use Rattle.layout.specs.Kinds.{typeOf, kindOf, typeIn, kindIn}
-use Rattle.layout.specs.Fields.{delegaNumber, fieldsOf, valueOf}
+use Rattle.layout.specs.Fields.{delegaNumber, finalBalance, tailDeleghe, tailSum, tailRecords, fieldsOf, valueOf}
 use Rattle.rules.specs.declared.State.{State}
 use Rattle.amounts.specs.declared.Outcome.{Outcome}
 use Rattle.amounts.specs.declared.Outcome.the-variants.{Pass, Fault}
 use Rattle.order.specs.Order.{stands, full, typeStands, standing}
-use Rattle.rules.specs.Stored.{Stored, storedOf, wrong}
+use Rattle.rules.specs.Stored.{Stored, sectionSums, storedOf, wrong}
 use Rattle.rules.specs.Checks.{charFault, orBad, badFields, numberFault, tailName, ownFault, fault}
 use Rattle.rules.specs.Step.{lineSums, next}
 use Rattle.judge.proofs.ChecksInOrder.{allowed-of}
 use Rattle.amounts.proofs.Outcomes.{first-pass, five-pass}
 use Rattle.rebalance.specs.Rebalance.{putAll, emit, fitsAll, clear, keptFields, keptFault}
+use Rattle.rebalance.specs.Places.{balanceColumns}
+use Rattle.rebalance.proofs.Outside.{balance-covers}
+use Rattle.rebalance.proofs.Alike.{stored-over}
 use Rattle.rebalance.proofs.Written.{byte-of, laid, length-putAll, putAll-clear, Holds, putAll-holds, holds-same, putAll-allowed, valueFields, holds-numbers, holds-pass, pass-fits, pass-holds}
 use Rattle.rebalance.proofs.Columns.{Storing, plain, balance, payment, tail, storing, Columns, columns, printable-stored, fields-same}
 
@@ -61,10 +66,17 @@ pub kept-all : (name : List ℕ) (st : State) (r : List ℕ) → KeptEach name s
 unfolding keptFault
 kept-all name st r k = rw (k .characters, k .order, k .digits, k .number, k .own)
 
--- A record of the same kind gets the same stored fields.
-emit-as : (st : State) (r s : List ℕ) → kindIn s ≡ kindIn r → emit st s ≡ putAll (storedOf st (kindIn r)) s
-unfolding emit
-emit-as st r s e = ap (λ (k : Kind). putAll (storedOf st k) s) e
+-- What two states store in a record of a kind stands in the same columns: what is written last stays.
+over-kind : {b : State} {k : Kind} → Storing b k → (a : State) (r : List ℕ) → length r ≡ 120 → putAll (storedOf a k) (putAll (storedOf b k) r) ≡ putAll (storedOf a k) r
+unfolding putAll
+over-kind (plain e f) a r l = rw e
+over-kind {b} (balance s h) a r l =
+    stored-over (balanceColumns s) (storedOf b (Balance s)) (storedOf a (Balance s)) r (balance-covers s (sectionSums b s) (sectionAt s .totals)) (balance-covers s (sectionSums a s) (sectionAt s .totals))
+    (columns {st = b} (balance s h) .laid-out) (columns {st = a} (balance s h) .laid-out) l
+over-kind {b} payment a r l = stored-over (finalBalance ∷ []) (storedOf b Payment) (storedOf a Payment) r (refl, refl, tt) (refl, refl, tt) (columns {st = b} payment .laid-out) (columns {st = a} payment .laid-out) l
+over-kind {b} tail a r l =
+    stored-over (tailDeleghe ∷ tailRecords ∷ tailSum ∷ []) (storedOf b Tail) (storedOf a Tail) r (refl, refl, (refl, refl, (refl, refl, tt))) (refl, refl, (refl, refl, (refl, refl, tt))) (columns {st = b} tail .laid-out)
+    (columns {st = a} tail .laid-out) l
 
 -- Two states that store the same in a record rebalance it alike.
 pub emit-same-stored : (st st′ : State) (r : List ℕ) → storedOf st (kindIn r) ≡ storedOf st′ (kindIn r) → emit st r ≡ emit st′ r
@@ -138,19 +150,20 @@ module _ (st : State) (r : List ℕ) (l : length r ≡ 120) where
   unfolding emit
   emit-holds = putAll-holds xs r laid-out l
 
-  -- What the other checks and the next state read of it stays.
-  pub emit-kept : (name : List ℕ) → Kept name st (kindIn r) r (emit st r)
+  -- What the other checks and the next state read of it stays, after whatever state it is looked at.
+  pub emit-kept : (name : List ℕ) (a : State) → Kept name a (kindIn r) r (emit st r)
   unfolding emit
-  emit-kept name = kept (storing st r) places name st r emit-part
+  emit-kept name a = kept (storing st r) places name a r emit-part
 
   -- The next state ignores what rebalancing writes.
-  pub next-emit : next st (emit st r) ≡ next st r
+  pub next-emit : (a : State) → next a (emit st r) ≡ next a r
   unfolding next
-  next-emit = rw (emit-kind, emit-kept [] .sums)
+  next-emit a = rw (emit-kind, emit-kept [] a .sums)
 
-  -- Rebalancing a record again changes nothing.
-  pub emit-again : emit st (emit st r) ≡ emit st r
-  emit-again = emit-as st r (emit st r) emit-kind ∙ holds-same xs (emit st r) laid-out emit-length emit-holds
+  -- Rebalanced once more, after the same state or another, it is what it would have been at once.
+  pub emit-over : (a : State) → emit a (emit st r) ≡ emit a r
+  unfolding emit
+  emit-over a = rw emit-kind (over-kind (storing st r) a r l)
 
   -- It is made of characters after rebalancing, where it was before.
   emit-allowed : firstBad r ≡ Allowed → firstBad (emit st r) ≡ Allowed
@@ -166,7 +179,7 @@ module _ (st : State) (r : List ℕ) (l : length r ≡ 120) where
   unfolding fault
   emit-passes name e f =
       let a = kept-each name st r e in
-      let k = emit-kept name in
+      let k = emit-kept name st in
       rw (emit-type, emit-kind, emit-number, emit-allowed (allowed-of (firstBad r) (a .characters)), a .order, emit-numbers (k .fields ∙ a .digits), a .number, k .own ∙ a .own) (holds-pass xs (emit st r) f emit-holds)
 
   -- A record that passes every check passes those that rebalancing leaves alone, and its stored fields are of digits and right.

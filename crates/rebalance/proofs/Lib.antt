@@ -1,6 +1,9 @@
 pub mod Written
 pub mod Columns
+pub mod Outside
+pub mod Alike
 pub mod Emit
+pub mod Rewritten
 pub mod Rebalanced
 pub mod Weighed
 pub mod Flat
@@ -10,8 +13,6 @@ pub mod Fitting
 pub mod Stores
 pub mod Surveys
 pub mod Passes
-pub mod Outside
 pub mod Numbered
 pub mod AsJudged
 pub mod KeptNumbers
-pub mod Alike

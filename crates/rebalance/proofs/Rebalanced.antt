@@ -1,25 +1,24 @@
 -- The laws of rebalancing records: those that it mends are accepted after it with the sums of their lines, and those without a fault are their own rebalancing.
 use Prim.Native.Nat.{ℕ, suc}
-use mathlib.Core.Path.{_≡_, refl, ap, ap₂, _∙_}
-use mathlib.Core.Bool.{Bool, true, false, cond}
+use mathlib.Core.Path.{_≡_, refl, ap, ap₂}
+use mathlib.Core.Bool.{true}
 use mathlib.Core.List.{List, [], _∷_, _++_}
 use borrow.Author.Tests.{eq-eqb}
 use lib.ListN.{length}
-use Rattle.layout.specs.Kinds.{kindIn}
 use Rattle.rules.specs.declared.State.{State}
 use Rattle.order.specs.Stages.{afterTail}
-use Rattle.rules.specs.Stored.{storedOf}
 use Rattle.rules.specs.Step.{next}
 use Rattle.judge.specs.Flow.{acceptedWith, closing, judgedFrom}
 use Rattle.judge.specs.Plain.{stateAfter, NoFault}
-use Rattle.rebalance.specs.Rebalance.{emit, rebalanced, fitsAll, allFit, Sized, Mendable}
-use Rattle.rebalance.proofs.Emit.{emit-length, emit-kind, next-emit, emit-again, emit-passes, fault-kept, fault-fits, emit-own}
+use Rattle.rebalance.specs.Rebalance.{emit, rebalanced, allFit, Sized, Mendable}
+use Rattle.rebalance.proofs.Emit.{emit-length, next-emit, emit-passes, fault-kept, fault-fits, emit-own}
+use Rattle.rebalance.proofs.Rewritten.{like-rebalanced, same-state, same-rebalanced, same-fits}
 
 -- Records that rebalancing mends are accepted after it, with the sums of their lines.
 pub rebalanced-accepted : (name : List ℕ) (st : State) (rs : List (List ℕ)) → Mendable name st rs → judgedFrom name st (rebalanced st rs) ≡ acceptedWith (stateAfter st rs)
 unfolding judgedFrom rebalanced stateAfter closing
 rebalanced-accepted name st [] m = rw (eq-eqb _ _ m)
-rebalanced-accepted name st (r ∷ rs) m = rw (emit-passes st r (m .0) name (m .1) (m .2), next-emit st r (m .0)) (rebalanced-accepted name (next st r) rs (m .3))
+rebalanced-accepted name st (r ∷ rs) m = rw (emit-passes st r (m .0) name (m .1) (m .2), next-emit st r (m .0) st) (rebalanced-accepted name (next st r) rs (m .3))
 
 -- Records without a fault are their own rebalancing.
 pub faultless-own : (name : List ℕ) (st : State) (rs : List (List ℕ)) → Sized rs → NoFault name st rs → rebalanced st rs ≡ rs
@@ -48,15 +47,11 @@ sized-rebalanced st (r ∷ rs) s = (emit-length st r (s .0), sized-rebalanced (n
 
 -- Rebalanced records lead to the same state.
 pub state-rebalanced : (st : State) (rs : List (List ℕ)) → Sized rs → stateAfter st (rebalanced st rs) ≡ stateAfter st rs
-unfolding rebalanced stateAfter
-state-rebalanced st [] s = refl
-state-rebalanced st (r ∷ rs) s = ap (λ (t : State). stateAfter t (rebalanced (next st r) rs)) (next-emit st r (s .0)) ∙ state-rebalanced (next st r) rs (s .1)
+state-rebalanced st rs s = same-state _ rs (like-rebalanced st rs s) st
 
 -- Rebalancing again changes nothing.
 pub rebalanced-again : (st : State) (rs : List (List ℕ)) → Sized rs → rebalanced st (rebalanced st rs) ≡ rebalanced st rs
-unfolding rebalanced
-rebalanced-again st [] s = refl
-rebalanced-again st (r ∷ rs) s = rw (next-emit st r (s .0)) (ap₂ _∷_ (emit-again st r (s .0)) (rebalanced-again (next st r) rs (s .1)))
+rebalanced-again st rs s = same-rebalanced _ rs (like-rebalanced st rs s) st
 
 -- Records after others are rebalanced from the state that these lead to.
 pub rebalanced-append : (st : State) (xs ys : List (List ℕ)) → rebalanced st (xs ++ ys) ≡ rebalanced st xs ++ rebalanced (stateAfter st xs) ys
@@ -77,6 +72,4 @@ mendable-fits name st (r ∷ rs) m = rw (m .2) (mendable-fits name (next st r) r
 
 -- What rebalancing writes into rebalanced records fits where it does in the records as they were.
 pub fits-rebalanced : (st : State) (rs : List (List ℕ)) → Sized rs → allFit st (rebalanced st rs) ≡ allFit st rs
-unfolding allFit rebalanced
-fits-rebalanced st [] z = refl
-fits-rebalanced st (r ∷ rs) z = rw (emit-kind st r (z .0), next-emit st r (z .0)) (ap (λ (b : Bool). cond (fitsAll (storedOf st (kindIn r))) b false) (fits-rebalanced (next st r) rs (z .1)))
+fits-rebalanced st rs s = same-fits _ rs (like-rebalanced st rs s) st

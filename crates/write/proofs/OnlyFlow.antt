@@ -21,7 +21,7 @@ use Rattle.judge.specs.Flow.{recordsOf, headNameOf}
 use Rattle.judge.specs.Plain.{NoFault, Sound}
 use Rattle.judge.proofs.Accepted.{accepted-means-no-fault}
 use Rattle.rebalance.specs.Rebalance.{emit, rebalanced, fitsAll, allFit, flat, Sized}
-use Rattle.rebalance.proofs.Emit.{KeptEach, kept-each, emit-length, emit-kind, fault-kept, fault-fits, emit-own}
+use Rattle.rebalance.proofs.Emit.{KeptEach, kept-each, emit-length, emit-kind, next-emit, emit-over, fault-kept, fault-fits, emit-own}
 use Rattle.rebalance.proofs.Flat.{name-in-front}
 use Rattle.rebalance.proofs.Judged.{sized-records, flat-records}
 use Rattle.sheet.specs.Sheet.{Entry, entry}
@@ -37,7 +37,7 @@ use Rattle.write.proofs.WrittenFlow.{entries-in, name-length, length-wr
 use Rattle.write.proofs.CarriesSheet.{written-carries}
 use Rattle.rebalance.proofs.Numbered.{number-held}
 use Rattle.write.proofs.FilledAlike.{filled-alike, held-filled, name-held}
-use Rattle.write.proofs.OtherState.{next-other, kept-other, emit-over}
+use Rattle.write.proofs.OtherState.{kept-other}
 
 -- A record that passes every check after a state, and one to be written that it carries.
 module _ (name : List ℕ) (n : length name ≡ 20) (st : State) (e : Entry) (a : Entered e) (r : List ℕ) (l : length r ≡ 120) (p : fault name st r ≡ Pass) (k : kindIn r ≡ e .slot)
@@ -68,11 +68,11 @@ module _ (name : List ℕ) (n : length name ≡ 20) (st : State) (e : Entry) (a 
 
   -- It leads to the same state.
   carried-next : next st (filled name e) ≡ next st r
-  carried-next = ap (next st) carried-filled ∙ next-other startState st r l
+  carried-next = ap (next st) carried-filled ∙ next-emit startState r l st
 
   -- Rebalanced it is the record.
   carried-emit : emit st (filled name e) ≡ r
-  carried-emit = ap (emit st) carried-filled ∙ (emit-over startState st r l (a .in-slot) k ∙ emit-own st r l name p)
+  carried-emit = ap (emit st) carried-filled ∙ (emit-over startState r l st ∙ emit-own st r l name p)
 
 -- What is shown of all records: none has a fault, what is written fits, and rebalanced they are those of the flow.
 record Settled (name : List ℕ) (st : State) (es : List Entry) (rs : List (List ℕ)) : Type 0 where
