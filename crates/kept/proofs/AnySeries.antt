@@ -18,9 +18,8 @@ use Rattle.dropping.proofs.Dropped.{dropped-accepted}
 use Rattle.sums.specs.declared.KeptSums.{KeptSums}
 use Rattle.sums.specs.LineSums.{keptOf}
 use Rattle.sums.proofs.Adding.{accepted-sums}
-use Rattle.kept.specs.declared.Keeping.{Keeping}
-use Rattle.kept.specs.Keeping.{keeping, correctionWith, mendingWith, droppingWith, droppedWith}
-use Rattle.kept.specs.Series.{Beside, Call, Correct, Rebalance, Drop, cutTo, afterCall, afterCalls, Stands}
+use Rattle.kept.specs.Keeping.{correctionWith, mendingWith, droppingWith, droppedWith}
+use Rattle.kept.specs.Series.{Beside, Call, Correct, Rebalance, Drop, cutTo, afterCall, afterCalls, Stands, withKept}
 use Rattle.kept.proofs.Answered.{correction-done, mending-done, dropping-done}
 use Rattle.kept.proofs.HandedBack.{kept-made, correction-refused, correction-made, mending-refused, mending-made, dropping-refused, dropping-made}
 
@@ -86,10 +85,10 @@ series-keeps (c ∷ cs) b w = series-keeps cs (afterCall c b) (call-keeps c b w)
 
 -- From an accepted flow and the record made of it: the flow is accepted, the record has the sums of its lines, and these are the sums that its judgement answers.
 pub series-from-kept : (cs : List Call) (f : List ℕ) → judged f .verdict ≡ Accepted →
-    let b = afterCalls cs (record { flow = f; kept = keeping f .kept }) in
+    let b = afterCalls cs (withKept f) in
     (judged (b .flow) .verdict ≡ Accepted) × (b .kept ≡ keptOf (b .flow)) × (b .kept .sums ≡ judged (b .flow) .summary .sums)
 series-from-kept cs f e =
-    let w = series-keeps cs (record { flow = f; kept = keeping f .kept }) (record { accepted = e; own = kept-made f e }) in
+    let w = series-keeps cs (withKept f) (record { accepted = e; own = kept-made f e }) in
     (w .accepted, w .own, ap (λ (k : KeptSums). k .sums) (w .own) ∙ sym (accepted-sums _ (w .accepted)))
 
 -- "a call with sums that don't match the flow changes nothing", and hands the record back as it came.

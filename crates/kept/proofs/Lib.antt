@@ -7,4 +7,5 @@ pub mod Answered
 pub mod HandedBack
 pub mod TwentyNine
 pub mod AnySeries
+pub mod TwoClerks
 pub mod OneAnswer

@@ -5,14 +5,16 @@ use mathlib.Core.List.{List, [], _∷_}
 use lib.ListN.{take}
 use Rattle.judge.specs.declared.Verdict.the-variants.{Accepted}
 use Rattle.judge.specs.Flow.{judged}
+use Rattle.correct.specs.Effect as Plain
 use Rattle.dropping.specs.declared.Dropping.{Dropping}
 use Rattle.dropping.specs.declared.Dropping.the-variants as Shorter
 use Rattle.sums.specs.declared.KeptSums.{KeptSums}
 use Rattle.sums.specs.LineSums.{keptOf}
+use Rattle.kept.specs.declared.Keeping.{Keeping}
 use Rattle.kept.specs.declared.CorrectionKept.{CorrectionKept}
 use Rattle.kept.specs.declared.MendingKept.{MendingKept}
 use Rattle.kept.specs.declared.DroppingKept.{DroppingKept}
-use Rattle.kept.specs.Keeping.{correctedWith, correctionKept, mendedWith, mendingKept, droppingWith, droppedWith, droppingKept}
+use Rattle.kept.specs.Keeping.{keeping, correctedWith, correctionKept, mendedWith, mendingKept, droppingWith, droppedWith, droppingKept}
 
 -- A flow, and the record beside it.
 pub record Beside : Type 0 where
@@ -46,3 +48,11 @@ afterCalls (c ∷ cs) b = afterCalls cs (afterCall c b)
 pub record Stands (b : Beside) : Type 0 where
   pub accepted : judged (b .flow) .verdict ≡ Accepted
   pub own : b .kept ≡ keptOf (b .flow)
+
+-- The record made from a flow, beside it.
+abbrev pub withKept : List ℕ → Beside
+withKept f = record { flow = f; kept = keeping f .kept }
+
+-- A correction without a record, as a call of such a series.
+abbrev pub asKept : Plain.Call → Call
+asKept c = Correct (c .delega) (c .subtype) (c .nth) (c .debit) (c .credit)
