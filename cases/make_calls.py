@@ -10,6 +10,7 @@ sys.dont_write_bytecode = True
 import corrections      # adds its cases to the list
 import sheets, sheet_faults, samples        # these too
 import keepings, keeping_faults     # and these
+import clerks       # and this one, to three lists, behind those that are there
 import correction
 import droppings
 import keeping
