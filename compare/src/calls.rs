@@ -71,6 +71,14 @@ impl Call {
         Call::Correct { delega, subtype, place, debit, credit }
     }
 
+    /// The five numbers of a correction.
+    pub fn numbers(&self) -> [u64; 5] {
+        match *self {
+            Call::Correct { delega, subtype, place, debit, credit } => [delega, subtype, place, debit, credit],
+            _ => unreachable!("{self} is no correction"),
+        }
+    }
+
     /// The call's column in a tally.
     pub fn index(&self) -> usize {
         match self {

@@ -4,60 +4,70 @@ use crate::calls::Call;
 use crate::columns::*;
 use crate::rng::Rng;
 use crate::sound::{DelegaPlan, Plan};
+use std::ops::RangeInclusive;
 
-const MOST: i64 = MOST_AMOUNT as i64;
+pub const MOST: i64 = MOST_AMOUNT as i64;
 
-/// A line of a plan, all counted from 0, and what is around it.
-struct Spot {
-    delega: usize,
-    section: usize,
-    line: usize,
-    old: (i64, i64),
+/// The places of a delega, of one of its sections and of a line there, all counted
+/// from 0.
+#[derive(Clone, Copy, PartialEq, Eq, Debug)]
+pub struct Place {
+    pub delega: usize,
+    pub section: usize,
+    pub line: usize,
+}
+
+/// A line of a plan, and what is around it.
+pub struct Spot {
+    place: Place,
+    pub old: (i64, i64),
     /// The section's sums and the delega's balance without this line, and the
     /// sum of final balances without this delega.
-    debits: i64,
-    credits: i64,
-    balance: i64,
+    pub debits: i64,
+    pub credits: i64,
+    pub balance: i64,
     others: i64,
-    identifying: bool,
+    pub identifying: bool,
 }
 
 impl Spot {
+    pub fn at(plan: &Plan, place: Place) -> Self {
+        let d = &plan.deleghe[place.delega];
+        let s = &d.sections[place.section];
+        let (debit, credit) = s.lines[place.line];
+        let (debit, credit) = (debit as i64, credit as i64);
+        let sums = s.sums();
+        let sum: i64 = plan.deleghe.iter().map(DelegaPlan::balance).sum();
+        Spot {
+            place,
+            old: (debit, credit),
+            debits: sums.0 as i64 - debit,
+            credits: sums.1 as i64 - credit,
+            balance: d.balance() - debit + credit,
+            others: sum - d.balance(),
+            identifying: s.section == IDENTIFYING,
+        }
+    }
+
     /// The largest debit beside this credit with which every sum fits.
-    fn highest(&self, credit: i64) -> i64 {
+    pub fn highest(&self, credit: i64) -> i64 {
         (MOST - self.debits).min(MOST - self.balance + credit).min(MOST - self.others - self.balance + credit)
     }
 
     /// The smallest debit beside this credit with no negative delega.
-    fn lowest(&self, credit: i64) -> i64 {
+    pub fn lowest(&self, credit: i64) -> i64 {
         (credit - self.balance).max(0)
     }
 }
 
 fn spot(rng: &mut Rng, plan: &Plan) -> Spot {
     let delega = rng.place(plan.deleghe.len());
-    let d = &plan.deleghe[delega];
-    let section = rng.place(d.sections.len());
-    let s = &d.sections[section];
-    let line = rng.place(s.lines.len());
-    let (debit, credit) = s.lines[line];
-    let (debit, credit) = (debit as i64, credit as i64);
-    let sums = s.sums();
-    let sum: i64 = plan.deleghe.iter().map(DelegaPlan::balance).sum();
-    Spot {
-        delega,
-        section,
-        line,
-        old: (debit, credit),
-        debits: sums.0 as i64 - debit,
-        credits: sums.1 as i64 - credit,
-        balance: d.balance() - debit + credit,
-        others: sum - d.balance(),
-        identifying: s.section == IDENTIFYING,
-    }
+    let section = rng.place(plan.deleghe[delega].sections.len());
+    let line = rng.place(plan.deleghe[delega].sections[section].lines.len());
+    Spot::at(plan, Place { delega, section, line })
 }
 
-fn up_to(rng: &mut Rng, most: i64) -> i64 {
+pub fn up_to(rng: &mut Rng, most: i64) -> i64 {
     rng.wide(most.max(0) as u64) as i64
 }
 
@@ -76,10 +86,26 @@ pub fn choose(rng: &mut Rng, plan: &Plan) -> Call {
             spot = self::spot(rng, plan);
         }
     }
+    aimed(rng, plan, &spot, aim)
+}
+
+/// A correction of this line, or of one that is not there in its place.
+pub fn choose_at(rng: &mut Rng, plan: &Plan, place: Place) -> Call {
+    let aim = rng.below(16);
+    aimed(rng, plan, &Spot::at(plan, place), aim)
+}
+
+/// The aims that are refused whatever the other lines have: 21, 22 and 9.
+pub const REFUSED: RangeInclusive<u64> = 1..=6;
+/// Those that are refused 14 or 23 by what the other lines have.
+pub const UNFIT: RangeInclusive<u64> = 12..=15;
+
+/// A correction of this line with one of the sixteen aims.
+pub fn aimed(rng: &mut Rng, plan: &Plan, spot: &Spot, aim: u64) -> Call {
     let (debit, credit) = match aim {
         0 => spot.old,
         1 | 2 => {
-            return nowhere(rng, plan, &spot);
+            return nowhere(rng, plan, spot);
         }
         3 | 4 => {
             let large = rng.pick(&[MOST + 1, MOST + 2, 10 * MOST, i64::MAX]);
@@ -87,7 +113,7 @@ pub fn choose(rng: &mut Rng, plan: &Plan) -> Call {
                 0 => (large, 0),
                 1 => (0, large),
                 2 => (large, large),
-                _ => return amounts(plan, &spot, u64::MAX - rng.below(3), rng.below(3)),
+                _ => return amounts(plan, spot, u64::MAX - rng.below(3), rng.below(3)),
             }
         }
         5 | 6 => match (spot.identifying, rng.below(3)) {
@@ -110,13 +136,13 @@ pub fn choose(rng: &mut Rng, plan: &Plan) -> Call {
             let credit = (MOST - spot.credits + over).min(MOST);
             (spot.lowest(credit).min(MOST), credit)
         }
-        _ => fitting(rng, &spot),
+        _ => fitting(rng, spot),
     };
-    amounts(plan, &spot, debit as u64, credit as u64)
+    amounts(plan, spot, debit as u64, credit as u64)
 }
 
 /// New amounts that can be made, at the very edge now and then.
-fn fitting(rng: &mut Rng, spot: &Spot) -> (i64, i64) {
+pub fn fitting(rng: &mut Rng, spot: &Spot) -> (i64, i64) {
     // None is left where the plan's sums do not fit.
     let most_credit = (MOST - spot.credits).max(0);
     let mut credit = match rng.below(8) {
@@ -146,11 +172,13 @@ fn fitting(rng: &mut Rng, spot: &Spot) -> (i64, i64) {
     (debit, credit)
 }
 
-fn amounts(plan: &Plan, spot: &Spot, debit: u64, credit: u64) -> Call {
+/// The correction of this line to these amounts.
+pub fn amounts(plan: &Plan, spot: &Spot, debit: u64, credit: u64) -> Call {
+    let Place { delega, section, line } = spot.place;
     Call::Correct {
-        delega: spot.delega as u64 + 1,
-        subtype: SECTIONS[plan.deleghe[spot.delega].sections[spot.section].section].line,
-        place: spot.line as u64 + 1,
+        delega: delega as u64 + 1,
+        subtype: SECTIONS[plan.deleghe[delega].sections[section].section].line,
+        place: line as u64 + 1,
         debit,
         credit,
     }
@@ -159,7 +187,7 @@ fn amounts(plan: &Plan, spot: &Spot, debit: u64, credit: u64) -> Call {
 /// A line that is not there; its amounts may be wrong besides.
 fn nowhere(rng: &mut Rng, plan: &Plan, spot: &Spot) -> Call {
     let deleghe = plan.deleghe.len() as u64;
-    let lines = plan.deleghe[spot.delega].sections[spot.section].lines.len() as u64;
+    let lines = plan.deleghe[spot.place.delega].sections[spot.place.section].lines.len() as u64;
     let call = match rng.below(3) {
         0 => amounts(plan, spot, 5, 0),
         1 => amounts(plan, spot, 0, 0),

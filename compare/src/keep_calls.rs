@@ -1,6 +1,5 @@
 //! The calls of a series that keeps the sums of a flow.
 
-use crate::calls::Call;
 use crate::correction;
 use crate::drop_lists;
 use crate::lent::canary;
@@ -67,11 +66,6 @@ pub fn any(rng: &mut Rng, flow: &[u8], plan: &Plan) -> Ask {
             let sort = drop_lists::any_sort(rng);
             Ask::Drop(drop_lists::list_of(rng, sort, plan.deleghe.len() as u64).0.numbers)
         }
-        _ => match correction::choose(rng, plan) {
-            Call::Correct { delega, subtype, place, debit, credit } => {
-                Ask::Correct([delega, subtype, place, debit, credit])
-            }
-            _ => Ask::Keep,
-        },
+        _ => Ask::Correct(correction::choose(rng, plan).numbers()),
     }
 }

@@ -40,8 +40,17 @@ mod lent;
 mod lines;
 mod list_call;
 mod mended;
+mod pair_claims;
+mod pair_flows;
+mod pair_lines;
+mod pair_report;
+mod pair_sorts;
+mod pair_tally;
+mod pairing;
+mod pairs;
 mod passed;
 mod payers;
+mod planned;
 mod portion;
 mod portion_vectors;
 mod probe;
@@ -82,11 +91,11 @@ use std::process::ExitCode;
 use writing::Writings;
 
 const USAGE: &str = "usage:
-  compare SEED FLOWS CORRECTIONS [SHEETS [SERIES [REBALANCINGS [DROPS [KEPT]]]]]
-                                             compares so many random cases; SERIES, REBALANCINGS, DROPS and KEPT are
-                                             200000 where they are not given
+  compare SEED FLOWS CORRECTIONS [SHEETS [SERIES [REBALANCINGS [DROPS [KEPT [PAIRS]]]]]]
+                                             compares so many random cases; SERIES, REBALANCINGS, DROPS, KEPT and
+                                             PAIRS are 200000 where they are not given
   compare again SEED KIND INDEX              compares one of these once more; KIND is flow, correction, sheet, series,
-                                             rebalancing, dropping or kept
+                                             rebalancing, dropping, kept or pair
   compare dates                              compares every six digits as the date of a flow and of a sheet
   compare codes FILE                         compares every last character behind the tax codes' beginnings of a file
   compare frames FILE..                      compares the flows of framed files
@@ -96,6 +105,7 @@ const USAGE: &str = "usage:
   compare rebalances FILE..                  compares files, a flow each, rebalanced
   compare drops FILE..                       compares files, a flow each, with deleghe dropped
   compare keeps FILE..                       compares files, a flow each, with a record of sums beside it
+  compare pairs FILE..                       compares files, a flow each, with pairs of corrections of its lines
   compare seeds SEED COUNT FOLDER            writes small random flows, a file each, for a fuzzer to start from
   compare vectors SEED COUNT FLOWS STDOUT    writes random flows with the reference's answers
   compare vectors sheets SEED COUNT DATA STDOUT
@@ -125,6 +135,7 @@ pub enum Failure {
     SheetDiffers(String, Box<writing::Difference>),
     SeriesDiffers(String, Box<portion::Difference>),
     ListCallDiffers(String, Box<list_call::Difference>),
+    PairDiffers(String, Box<pair_report::Difference>),
     /// An answer that came up too seldom for the run to say much.
     Seldom,
 }
@@ -160,6 +171,10 @@ fn main() -> ExitCode {
             eprintln!("\nDIFFERENCE in {}", difference.what());
             shown(&case, difference.write(&folder(), &case))
         }
+        Err(Failure::PairDiffers(case, difference)) => {
+            eprintln!("\nDIFFERENCE in a pair of corrections");
+            shown(&case, difference.write(&folder(), &case))
+        }
     }
 }
 
@@ -183,6 +198,7 @@ fn run(words: &[&str]) -> Result<(), Failure> {
         ["rebalances", ref files @ ..] if !files.is_empty() => rebalances::compare_files(files),
         ["drops", ref files @ ..] if !files.is_empty() => drops::compare_files(files),
         ["keeps", ref files @ ..] if !files.is_empty() => keeps::compare_files(files),
+        ["pairs", ref files @ ..] if !files.is_empty() => pairs::compare_files(files),
         ["seeds", seed, count, folder] => seeds(number(seed)?, number(count)?, Path::new(folder)),
         ["vectors", "sheets", seed, count, data, stdout] => {
             sheet_vectors::write(number(seed)?, number(count)?, data, stdout)
@@ -211,8 +227,8 @@ fn run(words: &[&str]) -> Result<(), Failure> {
         ["vectors", seed, count, flows, stdout] => {
             vectors::write(number(seed)?, number(count)?, flows, stdout).map_err(|error| Failure::Io(error.to_string()))
         }
-        [seed, ref counts @ ..] if (2..=7).contains(&counts.len()) => {
-            let mut all = [0, 0, 0, series::FULL, rebalances::FULL, drops::FULL, keeps::FULL];
+        [seed, ref counts @ ..] if (2..=8).contains(&counts.len()) => {
+            let mut all = [0, 0, 0, series::FULL, rebalances::FULL, drops::FULL, keeps::FULL, pairs::FULL];
             for (count, word) in all.iter_mut().zip(counts) {
                 *count = number(word)?;
             }
@@ -230,7 +246,10 @@ fn folder() -> PathBuf {
     PathBuf::from(std::env::var_os("COMPARE_FOLDER").unwrap_or_else(|| "difference".into()))
 }
 
-fn compare(seed: u64, [flows, corrections, sheets, many, mended, dropped, kept]: [u64; 7]) -> Result<(), Failure> {
+fn compare(
+    seed: u64,
+    [flows, corrections, sheets, many, mended, dropped, kept, paired]: [u64; 8],
+) -> Result<(), Failure> {
     let mut what = format!("{flows} flows, {corrections} corrections");
     for (count, name) in [
         (sheets, "sheets"),
@@ -238,6 +257,7 @@ fn compare(seed: u64, [flows, corrections, sheets, many, mended, dropped, kept]:
         (mended, "rebalancings"),
         (dropped, "droppings"),
         (kept, "series with a record"),
+        (paired, "pairs"),
     ] {
         if count > 0 {
             what += &format!(", {count} {name}");
@@ -275,6 +295,7 @@ fn compare(seed: u64, [flows, corrections, sheets, many, mended, dropped, kept]:
     let rebalancings = rebalances::compare(&pool, seed, mended)?;
     let droppings = drops::compare(&pool, seed, dropped)?;
     let keepings = keeps::compare(&pool, seed, kept)?;
+    let pairings = pairs::compare(&pool, seed, paired)?;
 
     comparer.tally.print();
     shapes.print();
@@ -290,6 +311,9 @@ fn compare(seed: u64, [flows, corrections, sheets, many, mended, dropped, kept]:
     }
     if kept > 0 {
         keepings.tally.print();
+    }
+    if paired > 0 {
+        pairings.tally.print();
     }
     let judged = (0..=20).chain([26]).map(|way| (comparer.tally.of(0, way), format!("judge {way}"))).min();
     let corrected =
@@ -324,7 +348,8 @@ fn compare(seed: u64, [flows, corrections, sheets, many, mended, dropped, kept]:
     seldom |= series.is_seldom(many);
     seldom |= rebalances::is_seldom(&rebalancings, mended);
     seldom |= drops::is_seldom(&droppings, dropped);
-    if keeps::is_seldom(&keepings, kept) || seldom {
+    seldom |= keeps::is_seldom(&keepings, kept);
+    if pairs::is_seldom(&pairings, paired) || seldom {
         return Err(Failure::Seldom);
     }
     println!("no difference");
@@ -632,6 +657,7 @@ fn again(seed: u64, kind: &str, index: u64) -> Result<(), Failure> {
         "rebalancing" => return rebalances::again(&pool, seed, index),
         "dropping" => return drops::again(&pool, seed, index),
         "kept" => return keeps::again(&pool, seed, index),
+        "pair" => return pairs::again(&pool, seed, index),
         _ => return Err(Failure::Usage),
     };
     compared.map_err(|difference| differs(seed, kind, index, difference))?;
