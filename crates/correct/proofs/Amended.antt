@@ -25,7 +25,7 @@ use Rattle.correct.proofs.Putting.{credit-in, debit-in, length-amounts}
 
 -- The record of a line of section s with other amounts.
 unfoldable pub amended : ℕ → ℕ → ℕ → List ℕ → List ℕ
-amended s x y r = putAt (sectionAt s .debit) (digitsOf 15 x) (putAt (sectionAt s .credit) (digitsOf 15 y) r)
+amended s x y r = amountsPut (sectionAt s .debit) (sectionAt s .credit) x y r
 
 -- A record of 120 bytes, and a section of the table.
 module _ (s : ℕ) (w : s < 5) (r : List ℕ) (l : length r ≡ 120) where
@@ -44,12 +44,12 @@ module _ (s : ℕ) (w : s < 5) (r : List ℕ) (l : length r ≡ 120) where
   module _ (x y : ℕ) where
     -- Other amounts leave the record its length.
     pub length-amended : length (amended s x y r) ≡ 120
-    unfolding amended amountsPut
+    unfolding amended
     length-amended = length-amounts r _ _ room x y ∙ l
 
     -- The first twelve characters stay.
     pub amended-part : (n m : ℕ) → m + n ≤ 12 → take n (drop m (amended s x y r)) ≡ take n (drop m r)
-    unfolding amended
+    unfolding amended amountsPut
     amended-part n m h =
         put-before _ _ _ (debit-room x y) n m (omega (arith, row-rule s w)) ∙ put-before _ _ r (credit-room y) n m (omega (arith, row-rule s w))
 
@@ -68,17 +68,17 @@ module _ (s : ℕ) (w : s < 5) (r : List ℕ) (l : length r ≡ 120) where
 
     -- The record stays made of characters.
     pub allowed-amended : firstBad r ≡ Allowed → firstBad (amended s x y r) ≡ Allowed
-    unfolding amended
+    unfolding amended amountsPut
     allowed-amended e = put-allowed _ _ _ (debit-room x y) (allowed-digits 15 x) (put-allowed _ _ r (credit-room y) (allowed-digits 15 y) e)
 
     -- The debit reads as the new one.
     pub debit-amended : x < 10 ^ 15 → numberOf (bytesOf (amended s x y r) (amountAt (sectionAt s .debit))) ≡ Number x
-    unfolding amended
+    unfolding amended amountsPut
     debit-amended h = ap numberOf (put-here _ _ _ (debit-room x y) (sectionAt s .debit + 15 - sectionAt s .debit) (omega (arith, length-digits 15 x))) ∙ number-digits 15 x h
 
     -- The credit reads as the new one.
     pub credit-amended : y < 10 ^ 15 → numberOf (bytesOf (amended s x y r) (amountAt (sectionAt s .credit))) ≡ Number y
-    unfolding amended
+    unfolding amended amountsPut
     credit-amended h =
         rw (put-after (sectionAt s .debit) (digitsOf 15 x) (putAt (sectionAt s .credit) (digitsOf 15 y) r) (debit-room x y) (sectionAt s .credit) (omega (arith, row-rule s w, length-digits 15 x)))
         (ap numberOf (put-here _ _ r (credit-room y) (sectionAt s .credit + 15 - sectionAt s .credit) (omega (arith, length-digits 15 y))) ∙ number-digits 15 y h)
@@ -92,7 +92,7 @@ module _ (s : ℕ) (w : s < 5) (r : List ℕ) (l : length r ≡ 120) where
   -- A line's own amounts leave every byte.
   pub amended-own : numberOf (bytesOf r (amountAt (sectionAt s .debit))) ≡ Number (valueOf r (amountAt (sectionAt s .debit))) → numberOf (bytesOf r (amountAt (sectionAt s .credit))) ≡ Number (valueOf r (amountAt (sectionAt s .credit))) →
       amended s (valueOf r (amountAt (sectionAt s .debit))) (valueOf r (amountAt (sectionAt s .credit))) r ≡ r
-  unfolding amended
+  unfolding amended amountsPut
   amended-own p q =
       let u = valueOf r (amountAt (sectionAt s .debit)) in
       let v = valueOf r (amountAt (sectionAt s .credit)) in

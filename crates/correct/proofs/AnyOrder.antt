@@ -6,12 +6,12 @@ use lib.ListN.{length}
 use Rattle.judge.specs.declared.Verdict.the-variants.{Accepted}
 use Rattle.judge.specs.Flow.{judged}
 use Rattle.rebalance.specs.Rebalance.{refreshed}
-use Rattle.correct.specs.Effect.{Call, after, AllMade, Different, Each, EachTwo, Reordered, None, Keep, Swap, Then}
+use Rattle.correct.specs.Effect.{Call, after, AllMade, Different, EachOne, EachTwo, Reordered, None, Keep, Swap, Then}
 use Rattle.correct.proofs.StaysAccepted.{accepted-whole}
 use Rattle.correct.proofs.Calls.{withCall, lineFor, call-whole, call-line, calls-commute, names-apart, withCalls, There, each-map, series-end}
 
 -- What holds of each call holds of each in another order.
-each-reordered : (P : Call → Type 0) {cs ds : List Call} → Reordered cs ds → Each P cs → Each P ds
+each-reordered : (P : Call → Type 0) {cs ds : List Call} → Reordered cs ds → EachOne P cs → EachOne P ds
 each-reordered P None h = tt
 each-reordered P (Keep c r) h = (h .0, each-reordered P r (h .1))
 each-reordered P (Swap a b cs) h = (h .1 .0, (h .0, h .1 .1))
@@ -36,7 +36,7 @@ apart-turned : (t : List ℕ) (a b : Call) → Apart t a b → Apart t b a
 apart-turned t a b h i e = h (λ z. i (sym e ∙ z)) (sym e)
 
 -- The amounts of different lines may be replaced in any order.
-amounts-reordered : {cs ds : List Call} → Reordered cs ds → (t : List ℕ) → length t % 120 ≡ 0 → Each (There t) cs → EachTwo (Apart t) cs → withCalls t cs ≡ withCalls t ds
+amounts-reordered : {cs ds : List Call} → Reordered cs ds → (t : List ℕ) → length t % 120 ≡ 0 → EachOne (There t) cs → EachTwo (Apart t) cs → withCalls t cs ≡ withCalls t ds
 unfolding withCalls
 amounts-reordered None t w h p = refl
 amounts-reordered (Keep c {cs} r) t w h p =

@@ -1,5 +1,4 @@
--- "Two clerks, two lines" (02, ask 13): where the corrections are made in either order the ends agree byte for byte; where each is made by itself, the second call is answered the same in both orders; and of an order
--- whose other way round is made, only the first call can be refused.
+-- "Two clerks, two lines" (02, ask 13): both orders made, the ends agree byte for byte; of an order whose other way round is made only the first call can be refused.
 use Prim.Native.Nat.{ℕ, _%_, _≤_}
 use mathlib.Core.Path.{_≡_, refl, sym, ap, _∙_}
 use mathlib.Core.Bool.{true, true≢false}
@@ -13,14 +12,15 @@ use Rattle.rebalance.specs.Rebalance.{refreshed}
 use Rattle.correct.specs.declared.Correction.{Correction}
 use Rattle.correct.specs.declared.Correction.the-variants.{Made, Refused}
 use Rattle.correct.specs.Correction.{sectionOf, weighed}
-use Rattle.correct.specs.Effect.{Call, answerTo, after, AllMade, Different}
+use Rattle.correct.specs.Effect.{Call, answerTo, after, AllMade, Different, Swap}
 use Rattle.correct.specs.WhenRefused.{Answers, AsFlow, NoLine, TooLarge, WrongLine, TurnsNegative, HasNoRoom, IsMade}
 use Rattle.correct.proofs.Split.{has-line}
 use Rattle.correct.proofs.Answered.{weighed-is, answered-exactly}
 use Rattle.correct.proofs.Conditions.{refused-untouched}
 use Rattle.correct.proofs.StaysAccepted.{accepted-whole, refreshed-accepted}
-use Rattle.correct.proofs.Back.{correct-again}
-use Rattle.correct.proofs.Calls.{withCall, Passes, call-passes, call-end, call-found, call-whole, call-line, call-weighed, calls-commute, names-apart, withCalls, There, series-end}
+use Rattle.correct.proofs.Afterwards.{correct-again}
+use Rattle.correct.proofs.Calls.{withCall, Passes, call-passes, call-end, call-found, call-whole, call-line, call-weighed, calls-commute, names-apart, There, series-end}
+use Rattle.correct.proofs.AnyOrder.{any-order}
 
 -- Behind a call that is made, another whose line is there and whose amounts the line may carry is answered by 14 and 23 of the flow with the amounts of both.
 second-weighs : (f : List ℕ) (a b : Call) → answerTo f a ≡ Made → There f b → b .debit ≤ 999_999_999_999_999 → b .credit ≤ 999_999_999_999_999 → lineRight (sectionOf (b .subtype)) (b .debit) (b .credit) ≡ true →
@@ -34,7 +34,7 @@ second-weighs f a b made there x y right =
     let h = has-line (refreshed (withCall f a)) (b .delega) (b .subtype) (b .nth) acc (λ z. i (sym (call-found (withCall f a) v b) ∙ z)) in
     ap (λ (g : List ℕ). answerTo g b) (call-end f a made) ∙ (weighed-is (refreshed (withCall f a)) (b .delega) (b .subtype) (b .nth) (b .debit) (b .credit) acc h x y right ∙ call-weighed (withCall f a) v b i)
 
--- Two calls that name different lines of an accepted flow that has both.
+-- The amounts of two calls that name different lines may be replaced in either order.
 both-same : (f : List ℕ) (a b : Call) → Different a b → answerTo f a ≡ Made → There f b → withCall (withCall f a) b ≡ withCall (withCall f b) a
 both-same f a b different made there =
     let m = call-passes f a made in
@@ -49,17 +49,24 @@ second-same f a b different one other =
     ∙ (ap weighed (both-same f a b different one (j .found)) ∙ sym (second-weighs f b a other (i .found) (i .debit-fits) (i .credit-fits) (i .right)))
 
 -- "if both corrections are made in either order, and none is refused in either, the two ends agree byte for byte"
-pub either-order : (f : List ℕ) (a b : Call) → Different a b → AllMade f (a ∷ b ∷ []) → AllMade f (b ∷ a ∷ []) → after (a ∷ b ∷ []) f ≡ after (b ∷ a ∷ []) f
-unfolding withCalls
-either-order f a b different made turned =
-    let acc = call-passes f a (made .0) .accepted in
-    series-end (a ∷ b ∷ []) f acc made .1 ∙ (ap refreshed (both-same f a b different (made .0) (call-passes f b (turned .0) .found)) ∙ sym (series-end (b ∷ a ∷ []) f acc turned .1))
+pub either-order : (f : List ℕ) (a b : Call) → Different a b → answerTo f a ≡ Made → answerTo (after (a ∷ []) f) b ≡ Made → answerTo f b ≡ Made → answerTo (after (b ∷ []) f) a ≡ Made →
+    after (a ∷ b ∷ []) f ≡ after (b ∷ a ∷ []) f
+either-order f a b different one then other turned = any-order f (call-passes f a one .accepted) (a ∷ b ∷ []) (b ∷ a ∷ []) (Swap a b []) ((different, tt), (tt, tt)) (one, (then, tt)) (other, (turned, tt))
 
 -- One order is made.
 module _ (f : List ℕ) (a b : Call) (different : Different a b) (made : AllMade f (a ∷ b ∷ [])) where
   -- The other is made as well, where its first call is.
   pub other-order-made : answerTo f b ≡ Made → AllMade f (b ∷ a ∷ [])
   other-order-made first = (first, (sym (second-same f a b different (made .0) first) ∙ made .1 .0, tt))
+
+  -- Its second call is made in any case.
+  pub other-order-second : answerTo (after (b ∷ []) f) a ≡ Made
+  unfolding after
+  other-order-second = go (answerTo f b) refl
+    where
+      go : (c : Correction) → answerTo f b ≡ c → answerTo (after (b ∷ []) f) a ≡ Made
+      go Made e = other-order-made e .1 .0
+      go (Refused m r p) e = ap (λ (g : List ℕ). answerTo g a) (refused-untouched f (b .delega) (b .subtype) (b .nth) (b .debit) (b .credit) e) ∙ made .0
 
   -- "One order may be refused where the other isn't": that call is made, or refused 14 or 23.
   pub other-order-first : (answerTo f b ≡ Made) ⊎ ((answerTo f b ≡ Refused 14 0 0) ⊎ (answerTo f b ≡ Refused 23 0 0))
@@ -88,6 +95,6 @@ module _ (f : List ℕ) (a b : Call) (different : Different a b) (made : AllMade
     where
       go : (c : Correction) → answerTo f b ≡ c → after (b ∷ a ∷ b ∷ []) f ≡ after (a ∷ b ∷ []) f
       go Made e =
-          ap (after (b ∷ [])) (sym (either-order f a b different made (other-order-made e)))
+          ap (after (b ∷ [])) (sym (either-order f a b different (made .0) (made .1 .0) e (other-order-made e .1 .0)))
           ∙ correct-again (after (a ∷ []) f) (b .delega) (b .subtype) (b .nth) (b .debit) (b .credit) (made .1 .0) .1
       go (Refused m r p) e = ap (after (a ∷ b ∷ [])) (refused-untouched f (b .delega) (b .subtype) (b .nth) (b .debit) (b .credit) e)

@@ -18,10 +18,10 @@ pub mod StaysAccepted
 pub mod LikeFlows
 pub mod SameAmounts
 pub mod TwoLines
-pub mod Back
+pub mod Afterwards
 pub mod Calls
-pub mod EitherOrder
 pub mod AnyOrder
+pub mod EitherOrder
 pub mod OtherDeleghe
 pub mod OnlyNamed
 pub mod Named

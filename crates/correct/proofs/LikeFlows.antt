@@ -1,13 +1,9 @@
 -- Flows that differ in what rebalancing writes alone: a line is the same record in both, and with other amounts they are alike again. So a correction of a refreshed flow is one of the flow as it was.
-use Prim.Native.Nat.{ℕ, _+_, _%_}
-use mathlib.Core.Path.{_≡_, refl, sym, ap, _∙_}
-use mathlib.Core.List.{List, [], _∷_, map}
+use Prim.Native.Nat.{ℕ, _%_}
+use mathlib.Core.Path.{_≡_, sym, ap, _∙_}
+use mathlib.Core.List.{List}
 use native.Mathlib.Omega.{arith}
 use lib.ListN.{length}
-use Rattle.layout.specs.declared.Kind.{Kind}
-use Rattle.layout.specs.declared.Kind.the-variants.{Head, Taxpayer, Domicile, Line, Balance, Payment, Receipt, Addressee, Tail, Unknown}
-use Rattle.layout.specs.Kinds.{sectionKind, kindIn}
-use Rattle.order.specs.declared.Stage.{Stage}
 use Rattle.rules.specs.State.{startState}
 use Rattle.judge.specs.Flow.{recordsOf}
 use Rattle.rebalance.specs.Rebalance.{rebalanced, allFit, flat, refreshed}
@@ -16,44 +12,17 @@ use Rattle.rebalance.proofs.Rewritten.{Like, AllLike, like-lines, like-rebalanc
 use Rattle.rebalance.proofs.Rebalanced.{sized-rebalanced}
 use Rattle.rebalance.proofs.Flat.{records-flat}
 use Rattle.rebalance.proofs.Judged.{sized-records, length-mended}
-use Rattle.find.specs.Line.{lineFrom, lineOfKind, lineOf}
+use Rattle.find.specs.Line.{lineOf}
+use Rattle.find.proofs.ByKinds.{line-same}
 use Rattle.correct.specs.Correction.{sectionOf}
 use Rattle.correct.specs.Effect.{withAmounts, recordNamed}
 use Rattle.correct.proofs.Amended.{amended}
 use Rattle.correct.proofs.Split.{Split, line-splits, named-here, records-replaced}
 
--- A line is found by the kinds of the records.
-line-by-kinds : (d s n : ℕ) (p : Stage) (e j : ℕ) (xs ys : List (List ℕ)) → map kindIn xs ≡ map kindIn ys → lineFrom d s n p e j xs ≡ lineFrom d s n p e j ys
-unfolding lineFrom
-line-by-kinds d s n p e j [] [] h = refl
-line-by-kinds d s n p e j [] (y ∷ ys) h = cc
-line-by-kinds d s n p e j (x ∷ xs) [] h = cc
-line-by-kinds d s n p e j (x ∷ xs) (y ∷ ys) h =
-    let k : kindIn x ≡ kindIn y = cc in
-    let t : map kindIn xs ≡ map kindIn ys = cc in
-    rw (k, line-by-kinds d s n _ _ (j + 1) xs ys t)
-
--- So it is with the line that is named.
-pub line-same : (f g : List ℕ) (d subtype n : ℕ) → map kindIn (recordsOf f) ≡ map kindIn (recordsOf g) → lineOf f d subtype n ≡ lineOf g d subtype n
-unfolding lineOf
-line-same f g d subtype n e = go (sectionKind subtype)
-  where
-    go : (k : Kind) → lineOfKind d k n f ≡ lineOfKind d k n g
-    go Head = refl
-    go Taxpayer = refl
-    go Domicile = refl
-    go (Line s) = line-by-kinds d s n _ _ _ (recordsOf f) (recordsOf g) e
-    go (Balance s) = refl
-    go Payment = refl
-    go Receipt = refl
-    go Addressee = refl
-    go Tail = refl
-    go Unknown = refl
-
 -- Two flows of whole records that are alike, and a line that is named.
 module _ (f g : List ℕ) (w : length f % 120 ≡ 0) (v : length g % 120 ≡ 0) (h : AllLike (recordsOf g) (recordsOf f)) (d subtype n : ℕ) where
   -- It is found at the same record.
-  pub like-line : lineOf g d subtype n ≡ lineOf f d subtype n
+  like-line : lineOf g d subtype n ≡ lineOf f d subtype n
   like-line = line-same g f d subtype n (same-kinds (recordsOf g) (recordsOf f) h)
 
   -- It is there.
@@ -76,17 +45,17 @@ module _ (f g : List ℕ) (w : length f % 120 ≡ 0) (v : length g % 120 ≡ 0) 
     same-here : q .here ≡ p .here
     same-here = like-lines (q .here) (p .here) (sectionOf subtype) (p .kind) (around .1)
 
-    pub like-named : recordNamed g d subtype n ≡ recordNamed f d subtype n
+    like-named : recordNamed g d subtype n ≡ recordNamed f d subtype n
     like-named = named-here g d subtype n there ∙ (same-here ∙ sym (named-here f d subtype n found))
 
     -- With other amounts the flows are alike again.
-    pub like-amounts : (x y : ℕ) → AllLike (recordsOf (withAmounts g d subtype n x y)) (recordsOf (withAmounts f d subtype n x y))
+    like-amounts : (x y : ℕ) → AllLike (recordsOf (withAmounts g d subtype n x y)) (recordsOf (withAmounts f d subtype n x y))
     like-amounts x y = rw (records-replaced g v q x y, records-replaced f w p x y, same-here) (like-around (q .before) (p .before) (amended (sectionOf subtype) x y (p .here)) (q .behind) (p .behind) (around .0) (around .2))
 
 -- A flow of whole records, refreshed.
 module _ (t : List ℕ) (w : length t % 120 ≡ 0) where
   -- It has as many bytes.
-  pub length-refreshed : length (refreshed t) ≡ length t
+  length-refreshed : length (refreshed t) ≡ length t
   unfolding refreshed
   length-refreshed = length-mended t w startState
 

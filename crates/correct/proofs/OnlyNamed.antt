@@ -39,6 +39,7 @@ use Rattle.find.specs.Line.{lineOf}
 use Rattle.correct.specs.declared.Correction.the-variants.{Made}
 use Rattle.correct.specs.Correction.{sectionOf, correctionOf, correctedBytes}
 use Rattle.correct.specs.Effect.{withAmounts}
+use Rattle.correct.specs.Writing.{amountsPut}
 use Rattle.correct.specs.Touched.{lineColumns, storedColumns, mayTouch}
 use Rattle.correct.proofs.Amended.{amended, credit-room, debit-room, line-amended}
 use Rattle.correct.proofs.Split.{Split, line-splits, records-replaced}
@@ -110,7 +111,7 @@ off-bytes name d s a b (r ∷ rs) z f o (suc q) c h = off-bytes name d s (next a
 
 -- So does the line.
 amended-outside : (s : ℕ) → s < 5 → (r : List ℕ) → length r ≡ 120 → (x y c : ℕ) → inColumns c (lineColumns s) ≡ false → getD (amended s x y r) c 0 ≡ getD r c 0
-unfolding amended
+unfolding amended amountsPut
 amended-outside s w r l x y c h =
     let i = length-digits 15 x in
     let j = length-digits 15 y in

@@ -1,32 +1,28 @@
 -- "a correction in one delega leaves the sums reported for every other delega the same" (02, ask 13): the whole answer for another delega is what it was.
 use Prim.Native.Nat.{ℕ}
 use mathlib.Core.Path.{_≡_, refl, sym, ap, ap₂, _∙_}
-use mathlib.Core.Bool.{Bool, true, false, cond, false≢true}
+use mathlib.Core.Bool.{Bool, true, false, cond}
 use mathlib.Core.List.{List, [], _∷_, _++_}
-use borrow.Author.Tests.{eqb-true}
-use lib.Dec.{eqb, ltb}
-use Rattle.layout.specs.declared.Kind.{Kind}
-use Rattle.layout.specs.declared.Kind.the-variants.{Head, Taxpayer, Domicile, Line, Balance, Payment, Receipt, Addressee, Tail, Unknown}
+use Rattle.layout.specs.declared.Kind.the-variants.{Line}
 use Rattle.layout.specs.Kinds.{kindIn}
 use Rattle.rules.specs.declared.State.{State}
 use Rattle.rules.specs.State.{startState}
 use Rattle.rules.specs.Step.{next}
 use Rattle.judge.specs.declared.Judgement.{Judgement}
-use Rattle.judge.specs.declared.Verdict.the-variants.{Accepted}
-use Rattle.judge.specs.Flow.{recordsOf, judged}
+use Rattle.judge.specs.Flow.{recordsOf}
 use Rattle.judge.specs.Plain.{Whole, stateAfter}
 use Rattle.judge.proofs.Accepted.{accepted-means-no-fault, sound-judged}
 use Rattle.delega.specs.declared.used.Used.{Used}
-use Rattle.delega.specs.declared.DelegaAnswer.{DelegaAnswer}
 use Rattle.delega.specs.Used.{noneUsed, nextUsed}
-use Rattle.delega.specs.OneDelega.{answered, closesAt, noSuchDelega, delegaFrom, delegaOf}
+use Rattle.delega.specs.OneDelega.{answered, closesAt, delegaFrom, delegaOf}
+use Rattle.delega.proofs.Asked.{byCount, delega-of-accepted, closes-own}
 use Rattle.rebalance.specs.Rebalance.{refreshed}
 use Rattle.rebalance.proofs.Rewritten.{AllLike}
 use Rattle.find.specs.Line.{lineOf}
 use Rattle.correct.specs.declared.Correction.{Correction}
 use Rattle.correct.specs.declared.Correction.the-variants.{Made, Refused}
 use Rattle.correct.specs.Correction.{sectionOf, correctionOf, correctedBytes}
-use Rattle.correct.specs.Effect.{withAmounts, Call, after, Each}
+use Rattle.correct.specs.Effect.{withAmounts, Call, after, EachOne}
 use Rattle.correct.proofs.Amended.{amended}
 use Rattle.correct.proofs.Split.{Split, line-splits, records-replaced}
 use Rattle.correct.proofs.Answered.{Passed}
@@ -35,19 +31,6 @@ use Rattle.correct.proofs.StaysAccepted.{accepted-whole, amounts-whole,
 use Rattle.correct.proofs.LikeFlows.{refreshed-like}
 use Rattle.correct.proofs.TwoLines.{amounts-kind}
 use Rattle.correct.proofs.OtherSums.{Off, off-on, off-line}
-
--- A record closes delega e only where e deleghe have been opened.
-closes-own : (e n : ℕ) (k : Kind) → closesAt e n k ≡ true → n ≡ e
-closes-own e n Head h = absurd (false≢true h)
-closes-own e n Taxpayer h = absurd (false≢true h)
-closes-own e n Domicile h = absurd (false≢true h)
-closes-own e n (Line s) h = absurd (false≢true h)
-closes-own e n (Balance s) h = absurd (false≢true h)
-closes-own e n Payment h = eqb-true n e h
-closes-own e n Receipt h = absurd (false≢true h)
-closes-own e n Addressee h = absurd (false≢true h)
-closes-own e n Tail h = absurd (false≢true h)
-closes-own e n Unknown h = absurd (false≢true h)
 
 -- Records that are alike give the same answer for each delega.
 like-delega : (e : ℕ) (xs ys : List (List ℕ)) → AllLike xs ys → (st : State) (u : Used) → delegaFrom e st u xs ≡ delegaFrom e st u ys
@@ -85,14 +68,6 @@ module _ (d s e : ℕ) (other : e ≡ d → ⊥) where
       let h = around (next st x) (nextUsed u (kindIn x)) xs r t ys n k l in
       (ap (cond (closesAt e (st .deleghe) (kindIn x)) (answered st u)) (h .0), h .1)
 
--- The answer for a delega of an accepted flow, by the number of its deleghe and its records.
-abbrev askedOf : ℕ → ℕ → DelegaAnswer → DelegaAnswer
-askedOf e count found = cond (eqb e 0) noSuchDelega (cond (ltb count e) noSuchDelega found)
-
-asked : (f : List ℕ) (e : ℕ) → judged f .verdict ≡ Accepted → delegaOf f e ≡ askedOf e (judged f .summary .deleghe) (delegaFrom e startState noneUsed (recordsOf f))
-unfolding delegaOf
-asked f e a = rw a
-
 -- A correction that may be made, and another delega.
 module _ (f : List ℕ) (d subtype n x y : ℕ) (m : Passed f d subtype n x y) (e : ℕ) (other : e ≡ d → ⊥) where
   abbrev w : Whole f
@@ -115,7 +90,7 @@ module _ (f : List ℕ) (d subtype n x y : ℕ) (m : Passed f d subtype n x y) (
       let a = refreshed-accepted f d subtype n x y m in
       let i = ap (λ (j : Judgement). j .summary .deleghe) a ∙ (replaced-delega .1 ∙ sym (ap (λ (j : Judgement). j .summary .deleghe) (sound-judged f (accepted-means-no-fault f (m .accepted))))) in
       let h = like-delega e _ _ (refreshed-like t (amounts-whole f d subtype n x y m .even)) startState noneUsed ∙ replaced-delega .0 in
-      asked (refreshed t) e (ap (λ (j : Judgement). j .verdict) a) ∙ (ap₂ (askedOf e) i h ∙ sym (asked f e (m .accepted)))
+      delega-of-accepted (refreshed t) e (ap (λ (j : Judgement). j .verdict) a) ∙ (ap₂ (byCount e) i h ∙ sym (delega-of-accepted f e (m .accepted)))
 
 -- A correction in one delega, made or refused, leaves the whole answer for every other number: verdict, balance, lines, set with its size and its first, and sums.
 pub other-deleghe-same : (f : List ℕ) (d subtype n x y e : ℕ) → (e ≡ d → ⊥) → delegaOf (correctedBytes f d subtype n x y) e ≡ delegaOf f e
@@ -126,7 +101,7 @@ other-deleghe-same f d subtype n x y e other = go (correctionOf f d subtype n x 
     go (Refused _ _ _) refused = ap (λ (l : List ℕ). delegaOf l e) (refused-untouched f d subtype n x y refused)
 
 -- So do calls one after the other, none of them in that delega.
-pub series-others-same : (cs : List Call) (f : List ℕ) (e : ℕ) → Each (λ c. e ≡ c .delega → ⊥) cs → delegaOf (after cs f) e ≡ delegaOf f e
+pub series-others-same : (cs : List Call) (f : List ℕ) (e : ℕ) → EachOne (λ c. e ≡ c .delega → ⊥) cs → delegaOf (after cs f) e ≡ delegaOf f e
 unfolding after
 series-others-same [] f e h = refl
 series-others-same (c ∷ cs) f e h = series-others-same cs _ e (h .1) ∙ other-deleghe-same f (c .delega) (c .subtype) (c .nth) (c .debit) (c .credit) e (h .0)

@@ -1,5 +1,5 @@
 -- A line's two amounts written into a list: once, once more, and beside others.
-use Prim.Native.Nat.{ℕ, _+_, _≤_}
+use Prim.Native.Nat.{ℕ, _+_, _-_, _*_, _≤_}
 use mathlib.Core.Path.{_≡_, sym, ap, _∙_}
 use mathlib.Core.List.{List}
 use native.Mathlib.Omega.{arith}
@@ -8,7 +8,17 @@ use Rattle.text.specs.Numbers.{digitsOf}
 use Rattle.text.specs.Placing.{putAt}
 use Rattle.text.proofs.Numerals.{length-digits}
 use Rattle.text.proofs.Puts.{length-put, put-over, puts-commute}
-use Rattle.correct.specs.Writing.{amountsPut, Room}
+use Rattle.layout.specs.Sections.{sectionAt}
+use Rattle.layout.proofs.Table.{row-rule}
+use Rattle.correct.specs.Writing.{amountsPut, Room, KthLine}
+
+-- The amounts of a line lie within its record.
+pub line-room : (f : List ℕ) (k s : ℕ) → KthLine f k s → Room f ((k - 1) * 120 + sectionAt s .debit) ((k - 1) * 120 + sectionAt s .credit)
+line-room f k s h =
+    let r = row-rule s (h .section) in
+    let a = h .counted in
+    let b = h .within in
+    record { apart = omega arith; inside = omega arith }
 
 module _ (f : List ℕ) (d c : ℕ) (room : Room f d c) where
   -- Both amounts lie within the list.

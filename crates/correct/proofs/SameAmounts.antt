@@ -52,7 +52,7 @@ pub record Own (s u v : ℕ) (r : List ℕ) : Type 0 where
 
 -- An accepted flow in which the line is found.
 module _ (f : List ℕ) (d subtype n : ℕ) (a : judged f .verdict ≡ Accepted) (h : lineOf f d subtype n ≡ 0 → ⊥) where
-  -- The line's section, its place among the records, and their number.
+  -- The line's section, its place among the records, and that these are whole.
   abbrev s : ℕ
   s = sectionOf subtype
 

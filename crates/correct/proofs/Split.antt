@@ -31,7 +31,9 @@ use Rattle.find.specs.Line.{isLine, lineFrom, lineOfKind, lineOf}
 use Rattle.find.proofs.NamedLine.{named-line, line-of-named}
 use Rattle.correct.specs.Correction.{sectionOf, replaced}
 use Rattle.correct.specs.Effect.{recordNamed}
+use Rattle.correct.specs.Writing.{amountsPut, Room, KthLine}
 use Rattle.correct.specs.WhenRefused.{HasLine}
+use Rattle.correct.proofs.Putting.{line-room, length-amounts}
 use Rattle.correct.proofs.Amended.{amended, credit-room, debit-room, length-amended}
 
 -- The k-th record, counted from the j-th on, is a line of section s in delega d.
@@ -136,6 +138,17 @@ module _ (f : List ℕ) (whole : length f % 120 ≡ 0) {d s k : ℕ} (p : Split 
   pub within-table : s < 5
   within-table = line-within (p .here) s (p .kind)
 
+  -- It is a record of the flow, and its amounts lie within the flow.
+  pub line-at : KthLine f k s
+  line-at =
+      let a = length-flat (recordsOf f) (sized-records f whole) in
+      let b = ap length (flat-records f whole) in
+      let e = simp length-append at (ap length (p .split)) in
+      record { counted = omega (arith, p .counted); within = omega (arith, p .counted); section = within-table }
+
+  pub amounts-room : Room f ((k - 1) * 120 + sectionAt s .debit) ((k - 1) * 120 + sectionAt s .credit)
+  amounts-room = line-room f k s line-at
+
   -- The flow is the bytes of the records before it, of the line and of those behind it.
   whole-flow : f ≡ flat (p .before) ++ (p .here ++ flat (p .behind))
   unfolding flat
@@ -144,7 +157,7 @@ module _ (f : List ℕ) (whole : length f % 120 ≡ 0) {d s k : ℕ} (p : Split 
   module _ (x y : ℕ) where
     -- With other amounts it is the bytes of the same records but for the line's.
     pub replaced-flat : replaced k s x y f ≡ flat (p .before ++ (amended s x y (p .here) ∷ p .behind))
-    unfolding replaced amended flat
+    unfolding replaced amended amountsPut flat
     replaced-flat =
         let e : (k - 1) * 120 ≡ length (flat (p .before)) = omega (arith, p .counted, length-flat (p .before) (parts .0)) in
         ap (λ (l : List ℕ). putAt ((k - 1) * 120 + sectionAt s .debit) (digitsOf 15 x) (putAt ((k - 1) * 120 + sectionAt s .credit) (digitsOf 15 y) l)) whole-flow
@@ -162,12 +175,5 @@ module _ (f : List ℕ) (whole : length f % 120 ≡ 0) {d s k : ℕ} (p : Split 
 
     -- It has as many bytes.
     pub length-replaced : length (replaced k s x y f) ≡ length f
-    unfolding flat
-    length-replaced =
-        omega (
-          arith,
-          simp length-append at (ap length (replaced-flat ∙ flat-append (p .before) (amended s x y (p .here) ∷ p .behind))),
-          simp length-append at (ap length whole-flow),
-          length-amended s within-table (p .here) length-here x y,
-          length-here,
-        )
+    unfolding replaced amountsPut
+    length-replaced = length-amounts f _ _ amounts-room x y

@@ -18,7 +18,7 @@ use Rattle.judge.proofs.Counts.{lines-after, accepted-lines}
 use Rattle.rebalance.specs.Rebalance.{flat, Mendable, refreshed}
 use Rattle.rebalance.proofs.Emit.{kept-stands}
 use Rattle.rebalance.proofs.Flat.{name-in-front}
-use Rattle.rebalance.proofs.Judged.{flat-records, length-mended, judged-rebalanced, accepted-mends}
+use Rattle.rebalance.proofs.Judged.{flat-records, length-mended, whole-same, judged-rebalanced, accepted-mends}
 use Rattle.find.specs.Line.{lineOf}
 use Rattle.correct.specs.declared.Correction.{Correction}
 use Rattle.correct.specs.declared.Correction.the-variants.{Made, Refused}
@@ -69,7 +69,7 @@ module _ (f : List ℕ) (d subtype n x y : ℕ) (m : Passed f d subtype n x y) w
 
   -- It stays a flow of whole records.
   pub amounts-whole : Whole t
-  amounts-whole = record { short = rw same-length (w .short); some = rw same-length (w .some); even = rw same-length (w .even) }
+  amounts-whole = whole-same f t same-length w
 
   -- Rebalancing mends the flow as it was.
   old-mends : Mendable (headNameOf f) startState (p .before ++ (p .here ∷ p .behind))

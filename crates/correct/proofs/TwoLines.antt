@@ -1,28 +1,24 @@
 -- A flow with the amounts of one line replaced: lines are found where they were; other amounts of the same line leave nothing of these, and those of another line may be replaced before or after.
-use Prim.Native.Nat.{ℕ, _+_, _-_, _*_, _%_, _<_}
+use Prim.Native.Nat.{ℕ, _-_, _%_, _<_}
 use mathlib.Core.Path.{_≡_, sym, ap, _∙_}
 use mathlib.Core.List.{List, [], map-append}
 use native.Mathlib.Omega.{arith}
 use native.Mathlib.Decide.{decLt}
-use lib.ListN.{length, getD, length-append}
+use lib.ListN.{length, getD}
 use lib.Seq.{getD-at}
 use Rattle.layout.specs.declared.Kind.the-variants.{Line}
-use Rattle.layout.specs.Sections.{sectionAt}
 use Rattle.layout.specs.Kinds.{kindIn}
 use Rattle.layout.proofs.Table.{row-rule}
 use Rattle.rules.specs.State.{startState}
 use Rattle.judge.specs.Flow.{recordsOf}
-use Rattle.rebalance.proofs.Flat.{length-flat}
-use Rattle.rebalance.proofs.Judged.{sized-records, flat-records}
 use Rattle.find.specs.Line.{lineOf}
+use Rattle.find.proofs.ByKinds.{line-same}
 use Rattle.correct.specs.Correction.{sectionOf, replaced}
 use Rattle.correct.specs.Effect.{withAmounts, recordNamed}
-use Rattle.correct.specs.Writing.{amountsPut, Room, KthLine}
+use Rattle.correct.specs.Writing.{amountsPut}
 use Rattle.correct.proofs.Putting.{amounts-over, amounts-past}
 use Rattle.correct.proofs.Amended.{amended, line-amended}
-use Rattle.correct.proofs.Split.{Split, line-splits, length-here, within-table, records-replaced}
-use Rattle.correct.proofs.Undone.{line-room}
-use Rattle.correct.proofs.LikeFlows.{line-same}
+use Rattle.correct.proofs.Split.{Split, line-splits, length-here, line-at, amounts-room, records-replaced}
 
 -- A flow of whole records, and a line that is there.
 module _ (f : List ℕ) (w : length f % 120 ≡ 0) (d subtype n : ℕ) (found : lineOf f d subtype n ≡ 0 → ⊥) where
@@ -34,17 +30,6 @@ module _ (f : List ℕ) (w : length f % 120 ≡ 0) (d subtype n : ℕ) (found : 
 
   abbrev p : Split d s startState 0 k (recordsOf f)
   p = line-splits f d subtype n found
-
-  -- It is a record of the flow, of a section of the table, and its amounts lie within the flow.
-  pub line-at : KthLine f (lineOf f d subtype n) (sectionOf subtype)
-  line-at =
-      let a = length-flat (recordsOf f) (sized-records f w) in
-      let b = ap length (flat-records f w) in
-      let e = simp length-append at (ap length (p .split)) in
-      record { counted = omega (arith, p .counted); within = omega (arith, p .counted); section = within-table f w p }
-
-  room : Room f ((k - 1) * 120 + sectionAt s .debit) ((k - 1) * 120 + sectionAt s .credit)
-  room = line-room f k s line-at
 
   module _ (x y : ℕ) where
     -- With other amounts it is the same line.
@@ -64,7 +49,7 @@ module _ (f : List ℕ) (w : length f % 120 ≡ 0) (d subtype n : ℕ) (found : 
     -- Other amounts again leave nothing of these.
     pub amounts-again : (u v : ℕ) → withAmounts (withAmounts f d subtype n x y) d subtype n u v ≡ withAmounts f d subtype n u v
     unfolding replaced amountsPut
-    amounts-again u v = rw (amounts-line d subtype n) (amounts-over f _ _ room x y u v)
+    amounts-again u v = rw (amounts-line d subtype n) (amounts-over f _ _ (amounts-room f w p) x y u v)
 
 -- Two lines of a flow of whole records.
 module _ (f : List ℕ) (w : length f % 120 ≡ 0) (d subtype n : ℕ) (found : lineOf f d subtype n ≡ 0 → ⊥) (e t m : ℕ) (other : lineOf f e t m ≡ 0 → ⊥) (x y u v : ℕ) where
@@ -73,9 +58,10 @@ module _ (f : List ℕ) (w : length f % 120 ≡ 0) (d subtype n : ℕ) (found : 
       replaced (lineOf f d subtype n) (sectionOf subtype) x y (replaced (lineOf f e t m) (sectionOf t) u v f) ≡ replaced (lineOf f e t m) (sectionOf t) u v (replaced (lineOf f d subtype n) (sectionOf subtype) x y f)
   unfolding replaced amountsPut
   lines-past h =
-      let a = line-at f w d subtype n found in
+      let p = line-splits f d subtype n found in
+      let a = line-at f w p in
       let r = row-rule (sectionOf subtype) (a .section) in
-      amounts-past f _ _ _ _ (line-room f _ _ a) (line-room f _ _ (line-at f w e t m other)) (omega (arith, a .counted)) x y u v
+      amounts-past f _ _ _ _ (amounts-room f w p) (amounts-room f w (line-splits f e t m other)) (omega (arith, a .counted)) x y u v
 
 -- Amounts of two lines may be replaced in either order.
 pub amounts-commute : (f : List ℕ) → length f % 120 ≡ 0 → (d subtype n : ℕ) → (lineOf f d subtype n ≡ 0 → ⊥) → (e t m : ℕ) → (lineOf f e t m ≡ 0 → ⊥) → (lineOf f d subtype n ≡ lineOf f e t m → ⊥) → (x y u v : ℕ) →

@@ -1,5 +1,5 @@
--- What the writing of a line's amounts leaves in the flow, and how it is undone.
-use Prim.Native.Nat.{ℕ, _+_, _-_, _*_, _<_, _≤_}
+-- What the inner functions of a correction leave: a line's amounts written, and put back; 22, 9, 14 and 23 as they are tried.
+use Prim.Native.Nat.{ℕ, _<_, _≤_}
 use mathlib.Core.Path.{_≡_, refl, sym, ap, ap₂, _∙_}
 use mathlib.Core.Bool.{Bool, true, false}
 use mathlib.Core.List.{List}
@@ -12,17 +12,16 @@ use Rattle.text.proofs.Bytes.{part-length}
 use Rattle.text.proofs.Numerals.{length-digits}
 use Rattle.text.proofs.Puts.{put-before, put-same, put-over, put-back}
 use Rattle.text.proofs.Fits.{number-fits, number-written}
-use Rattle.layout.specs.Sections.{sectionAt}
-use Rattle.layout.proofs.Table.{row-rule}
 use Rattle.rules.specs.State.{startState}
 use Rattle.amounts.specs.Amounts.{lineRight}
 use Rattle.judge.specs.Flow.{recordsOf}
 use Rattle.judge.specs.Plain.{Whole}
 use Rattle.rebalance.specs.Rebalance.{allFit}
 use Rattle.rebalance.specs.Weigh.{anyNegative}
+use Rattle.rebalance.proofs.Judged.{whole-same}
 use Rattle.correct.specs.declared.Correction.the-variants.{Made, Refused}
 use Rattle.correct.specs.Correction.{replaced, outcomeOf, weighed, tried}
-use Rattle.correct.specs.Writing.{amountsPut, Room, Fifteen, KthLine}
+use Rattle.correct.specs.Writing.{amountsPut, Room, Fifteen}
 use Rattle.correct.proofs.Putting.{credit-in, length-credit, debit-in, length-amounts}
 
 module _ (f : List ℕ) (d c : ℕ) (room : Room f d c) where
@@ -63,9 +62,7 @@ module _ (f : List ℕ) (d c : ℕ) (room : Room f d c) where
 
 -- A flow of whole records is one with other amounts too.
 pub whole-amounts : (f : List ℕ) (d c : ℕ) → Room f d c → (x y : ℕ) → Whole f → Whole (amountsPut d c x y f)
-whole-amounts f d c room x y w =
-    let e = length-amounts f d c room x y in
-    record { short = rw e (w .short); some = rw e (w .some); even = rw e (w .even) }
+whole-amounts f d c room x y w = whole-same f (amountsPut d c x y f) (length-amounts f d c room x y) w
 
 -- 14, 23, or made.
 module _ (t : List ℕ) where
@@ -101,11 +98,3 @@ module _ (k s x y : ℕ) (f : List ℕ) where
   pub tried-weighed : x ≤ 999_999_999_999_999 → y ≤ 999_999_999_999_999 → lineRight s x y ≡ true → tried k s x y f ≡ weighed (replaced k s x y f)
   unfolding tried
   tried-weighed g h e = rw (le-ltb _ _ g, le-ltb _ _ h, e)
-
--- The amounts of a line lie within its record.
-pub line-room : (f : List ℕ) (k s : ℕ) → KthLine f k s → Room f ((k - 1) * 120 + sectionAt s .debit) ((k - 1) * 120 + sectionAt s .credit)
-line-room f k s h =
-    let r = row-rule s (h .section) in
-    let a = h .counted in
-    let b = h .within in
-    record { apart = omega arith; inside = omega arith }

@@ -53,13 +53,13 @@ abbrev pub Different : Call → Call → Type 0
 Different a b = a .delega ≡ b .delega → a .subtype ≡ b .subtype → a .nth ≡ b .nth → ⊥
 
 -- Something holds of each of several calls, and something of each two of them.
-abbrev pub Each : (Call → Type 0) → List Call → Type 0
-Each P [] = Unit {0}
-Each P (c ∷ cs) = P c × Each P cs
+abbrev pub EachOne : (Call → Type 0) → List Call → Type 0
+EachOne P [] = Unit {0}
+EachOne P (c ∷ cs) = P c × EachOne P cs
 
 abbrev pub EachTwo : (Call → Call → Type 0) → List Call → Type 0
 EachTwo R [] = Unit {0}
-EachTwo R (c ∷ cs) = Each (R c) cs × EachTwo R cs
+EachTwo R (c ∷ cs) = EachOne (R c) cs × EachTwo R cs
 
 -- The same calls in another order.
 pub data Reordered : List Call → List Call → Type 0 where

@@ -1,11 +1,13 @@
 -- The four ways in which a call for one delega is answered, and that its promise settles the answer.
 use Prim.Native.Nat.{ℕ, _<_, _≤_}
 use mathlib.Core.Path.{_≡_, refl, sym, _∙_}
-use mathlib.Core.Bool.{Bool, true, false, cond}
+use mathlib.Core.Bool.{Bool, true, false, cond, false≢true}
 use mathlib.Core.List.{List, [], _∷_}
 use native.Mathlib.Omega.{arith}
-use borrow.Author.Tests.{lt-ltb, le-ltb, eq-eqb, ne-eqb}
+use borrow.Author.Tests.{eqb-true, lt-ltb, le-ltb, eq-eqb, ne-eqb}
 use lib.Dec.{eqb, ltb}
+use Rattle.layout.specs.declared.Kind.{Kind}
+use Rattle.layout.specs.declared.Kind.the-variants.{Head, Taxpayer, Domicile, Line, Balance, Payment, Receipt, Addressee, Tail, Unknown}
 use Rattle.layout.specs.Kinds.{kindIn}
 use Rattle.rules.specs.declared.State.{State}
 use Rattle.rules.specs.State.{startState}
@@ -25,20 +27,38 @@ pub delega-of-refused : (s : List ℕ) (d : ℕ) {n r p : ℕ} → judged s .ver
 unfolding delegaOf
 delega-of-refused s d e = rw e
 
+-- what is answered for a number, by the number of deleghe and by what is found among the records
+abbrev pub byCount : ℕ → ℕ → DelegaAnswer → DelegaAnswer
+byCount d count found = cond (eqb d 0) noSuchDelega (cond (ltb count d) noSuchDelega found)
+
 module _ (s : List ℕ) (d : ℕ) (e : judged s .verdict ≡ Accepted) where
+  pub delega-of-accepted : delegaOf s d ≡ byCount d (judged s .summary .deleghe) (delegaFrom d startState noneUsed (recordsOf s))
+  unfolding delegaOf
+  delega-of-accepted = rw e
+
   -- "a number that is 0 or above the count is refused 21"
   pub delega-zero : d ≡ 0 → delegaOf s d ≡ noSuchDelega
-  unfolding delegaOf
-  delega-zero z = rw (e, eq-eqb _ _ z)
+  delega-zero z = delega-of-accepted ∙ rw (eq-eqb d 0 z)
 
   pub delega-above : (d ≡ 0 → ⊥) → judged s .summary .deleghe < d → delegaOf s d ≡ noSuchDelega
-  unfolding delegaOf
-  delega-above z h = rw (e, ne-eqb _ _ z, lt-ltb _ _ h)
+  delega-above z h = delega-of-accepted ∙ rw (ne-eqb d 0 z, lt-ltb _ _ h)
 
   -- any other number is looked for
   pub delega-within : (d ≡ 0 → ⊥) → d ≤ judged s .summary .deleghe → delegaOf s d ≡ delegaFrom d startState noneUsed (recordsOf s)
-  unfolding delegaOf
-  delega-within z h = rw (e, ne-eqb _ _ z, le-ltb _ _ h)
+  delega-within z h = delega-of-accepted ∙ rw (ne-eqb d 0 z, le-ltb _ _ h)
+
+-- a record closes delega d only where d deleghe have been opened
+pub closes-own : (d n : ℕ) (k : Kind) → closesAt d n k ≡ true → n ≡ d
+closes-own d n Head h = absurd (false≢true h)
+closes-own d n Taxpayer h = absurd (false≢true h)
+closes-own d n Domicile h = absurd (false≢true h)
+closes-own d n (Line s) h = absurd (false≢true h)
+closes-own d n (Balance s) h = absurd (false≢true h)
+closes-own d n Payment h = eqb-true n d h
+closes-own d n Receipt h = absurd (false≢true h)
+closes-own d n Addressee h = absurd (false≢true h)
+closes-own d n Tail h = absurd (false≢true h)
+closes-own d n Unknown h = absurd (false≢true h)
 
 -- where a delega is looked for and not there, the refusal is 21
 from-number : (d : ℕ) (st : State) (u : Used) (rs : List (List ℕ)) {n r p : ℕ} → delegaFrom d st u rs .verdict ≡ Refused n r p → n ≡ 21

@@ -1,3 +1,4 @@
+pub mod ByKinds
 pub mod Subtypes
 pub mod NthIn
 pub mod LinesSoFar

@@ -6,6 +6,7 @@ use lib.ListN.{take}
 use Rattle.judge.specs.declared.Judgement.{Judgement}
 use Rattle.judge.specs.declared.Verdict.the-variants.{Accepted}
 use Rattle.judge.specs.Flow.{judged}
+use Rattle.correct.specs.Effect as Plain
 use Rattle.correct.specs.declared.Correction.{Correction}
 use Rattle.correct.specs.declared.Correction.the-variants as Correction
 use Rattle.correct.proofs.StaysAccepted.{corrected-accepted}
@@ -33,11 +34,11 @@ cut-by b numbers e = ap (λ (x : Dropping). cutTo x (droppedWith (b .kept) (b .f
 
 -- With the flow's own record, of a flow that is accepted or not, each call hands back the record of the flow as it is then.
 pub call-owns : (c : Call) (b : Beside) → b .kept ≡ keptOf (b .flow) → afterCall c b .kept ≡ keptOf (afterCall c b .flow)
-call-owns (Correct d subtype n x y) b w = go (correctionWith (b .kept) (b .flow) d subtype n x y) refl
+call-owns (Correct c) b w = go (correctionWith (b .kept) (b .flow) (c .delega) (c .subtype) (c .nth) (c .debit) (c .credit)) refl
   where
-    go : (a : Correction) → correctionWith (b .kept) (b .flow) d subtype n x y ≡ a → afterCall (Correct d subtype n x y) b .kept ≡ keptOf (afterCall (Correct d subtype n x y) b .flow)
-    go Correction.Made e = correction-made (b .kept) (b .flow) d subtype n x y e .1
-    go (Correction.Refused m r p) e = let h = correction-refused (b .kept) (b .flow) d subtype n x y e in as-came b w (h .0) (h .1)
+    go : (a : Correction) → correctionWith (b .kept) (b .flow) (c .delega) (c .subtype) (c .nth) (c .debit) (c .credit) ≡ a → afterCall (Correct c) b .kept ≡ keptOf (afterCall (Correct c) b .flow)
+    go Correction.Made e = correction-made (b .kept) (b .flow) (c .delega) (c .subtype) (c .nth) (c .debit) (c .credit) e .1
+    go (Correction.Refused m r p) e = let h = correction-refused (b .kept) (b .flow) (c .delega) (c .subtype) (c .nth) (c .debit) (c .credit) e in as-came b w (h .0) (h .1)
 call-owns (Rebalance list) b w = go (mendingWith (b .kept) (b .flow) list) refl
   where
     go : (a : Mending) → mendingWith (b .kept) (b .flow) list ≡ a → afterCall (Rebalance list) b .kept ≡ keptOf (afterCall (Rebalance list) b .flow)
@@ -51,13 +52,13 @@ call-owns (Drop numbers) b w = go (droppingWith (b .kept) (b .flow) numbers) ref
 
 -- An accepted flow stays accepted.
 call-accepts : (c : Call) (b : Beside) → judged (b .flow) .verdict ≡ Accepted → judged (afterCall c b .flow) .verdict ≡ Accepted
-call-accepts (Correct d subtype n x y) b w = go (correctionWith (b .kept) (b .flow) d subtype n x y) refl
+call-accepts (Correct c) b w = go (correctionWith (b .kept) (b .flow) (c .delega) (c .subtype) (c .nth) (c .debit) (c .credit)) refl
   where
-    go : (a : Correction) → correctionWith (b .kept) (b .flow) d subtype n x y ≡ a → judged (afterCall (Correct d subtype n x y) b .flow) .verdict ≡ Accepted
+    go : (a : Correction) → correctionWith (b .kept) (b .flow) (c .delega) (c .subtype) (c .nth) (c .debit) (c .credit) ≡ a → judged (afterCall (Correct c) b .flow) .verdict ≡ Accepted
     go Correction.Made e =
-        ap (λ (s : List ℕ). judged s .verdict) (correction-made (b .kept) (b .flow) d subtype n x y e .0)
-        ∙ ap (λ (j : Judgement). j .verdict) (corrected-accepted (b .flow) d subtype n x y (correction-done (b .kept) (b .flow) d subtype n x y .0 e .0))
-    go (Correction.Refused m r p) e = ap (λ (s : List ℕ). judged s .verdict) (correction-refused (b .kept) (b .flow) d subtype n x y e .0) ∙ w
+        ap (λ (s : List ℕ). judged s .verdict) (correction-made (b .kept) (b .flow) (c .delega) (c .subtype) (c .nth) (c .debit) (c .credit) e .0)
+        ∙ ap (λ (j : Judgement). j .verdict) (corrected-accepted (b .flow) (c .delega) (c .subtype) (c .nth) (c .debit) (c .credit) (correction-done (b .kept) (b .flow) (c .delega) (c .subtype) (c .nth) (c .debit) (c .credit) .0 e .0))
+    go (Correction.Refused m r p) e = ap (λ (s : List ℕ). judged s .verdict) (correction-refused (b .kept) (b .flow) (c .delega) (c .subtype) (c .nth) (c .debit) (c .credit) e .0) ∙ w
 call-accepts (Rebalance list) b w = go (mendingWith (b .kept) (b .flow) list) refl
   where
     go : (a : Mending) → mendingWith (b .kept) (b .flow) list ≡ a → judged (afterCall (Rebalance list) b .flow) .verdict ≡ Accepted
@@ -93,11 +94,11 @@ series-from-kept cs f e =
 
 -- "a call with sums that don't match the flow changes nothing", and hands the record back as it came.
 pub call-changes-nothing : (c : Call) (b : Beside) → (b .kept ≡ keptOf (b .flow) → ⊥) → afterCall c b ≡ b
-call-changes-nothing (Correct d subtype n x y) b h = go (correctionWith (b .kept) (b .flow) d subtype n x y) refl
+call-changes-nothing (Correct c) b h = go (correctionWith (b .kept) (b .flow) (c .delega) (c .subtype) (c .nth) (c .debit) (c .credit)) refl
   where
-    go : (a : Correction) → correctionWith (b .kept) (b .flow) d subtype n x y ≡ a → afterCall (Correct d subtype n x y) b ≡ b
-    go Correction.Made e = absurd (h (correction-done (b .kept) (b .flow) d subtype n x y .0 e .1))
-    go (Correction.Refused m r p) e = let w = correction-refused (b .kept) (b .flow) d subtype n x y e in ap₂ (λ s l. record { flow = s; kept = l }) (w .0) (w .1)
+    go : (a : Correction) → correctionWith (b .kept) (b .flow) (c .delega) (c .subtype) (c .nth) (c .debit) (c .credit) ≡ a → afterCall (Correct c) b ≡ b
+    go Correction.Made e = absurd (h (correction-done (b .kept) (b .flow) (c .delega) (c .subtype) (c .nth) (c .debit) (c .credit) .0 e .1))
+    go (Correction.Refused m r p) e = let w = correction-refused (b .kept) (b .flow) (c .delega) (c .subtype) (c .nth) (c .debit) (c .credit) e in ap₂ (λ s l. record { flow = s; kept = l }) (w .0) (w .1)
 call-changes-nothing (Rebalance list) b h = go (mendingWith (b .kept) (b .flow) list) refl
   where
     go : (a : Mending) → mendingWith (b .kept) (b .flow) list ≡ a → afterCall (Rebalance list) b ≡ b

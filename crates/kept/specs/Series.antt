@@ -21,9 +21,9 @@ pub record Beside : Type 0 where
   pub flow : List ℕ
   pub kept : KeptSums
 
--- "each correction, rebalancing and dropping": one call of a series. A correction names the line's delega, subtype and place in its section, and the new amounts; a rebalancing is lent a list; a dropping is given numbers.
+-- "each correction, rebalancing and dropping": one call of a series. A correction names a line and its new amounts as the plain one does; a rebalancing is lent a list; a dropping is given numbers.
 pub data Call : Type 0 where
-  Correct : ℕ → ℕ → ℕ → ℕ → ℕ → Call
+  Correct : Plain.Call → Call
   Rebalance : List ℕ → Call
   Drop : List ℕ → Call
 
@@ -34,8 +34,8 @@ cutTo (Shorter.Refused n r p) g = g
 
 -- The flow after a call, and the record that it hands back.
 abbrev pub afterCall : Call → Beside → Beside
-afterCall (Correct d subtype n debit credit) b =
-    record { flow = correctedWith (b .kept) (b .flow) d subtype n debit credit; kept = correctionKept (b .kept) (b .flow) d subtype n debit credit .kept }
+afterCall (Correct c) b =
+    record { flow = correctedWith (b .kept) (b .flow) (c .delega) (c .subtype) (c .nth) (c .debit) (c .credit); kept = correctionKept (b .kept) (b .flow) (c .delega) (c .subtype) (c .nth) (c .debit) (c .credit) .kept }
 afterCall (Rebalance list) b = record { flow = mendedWith (b .kept) (b .flow) list; kept = mendingKept (b .kept) (b .flow) list .kept }
 afterCall (Drop numbers) b = record { flow = cutTo (droppingWith (b .kept) (b .flow) numbers) (droppedWith (b .kept) (b .flow) numbers); kept = droppingKept (b .kept) (b .flow) numbers .kept }
 
@@ -52,7 +52,3 @@ pub record Stands (b : Beside) : Type 0 where
 -- The record made from a flow, beside it.
 abbrev pub withKept : List ℕ → Beside
 withKept f = record { flow = f; kept = keeping f .kept }
-
--- A correction without a record, as a call of such a series.
-abbrev pub asKept : Plain.Call → Call
-asKept c = Correct (c .delega) (c .subtype) (c .nth) (c .debit) (c .credit)

@@ -124,7 +124,7 @@ module _ (st : State) (r : List ℕ) (l : length r ≡ 120) where
   emit-length = length-putAll xs r laid-out l
 
   -- Bytes outside its stored fields stay, as a part.
-  pub emit-part : (m n : ℕ) → clear m n (storedOf st (kindIn r)) ≡ true → take n (drop m (emit st r)) ≡ take n (drop m r)
+  emit-part : (m n : ℕ) → clear m n (storedOf st (kindIn r)) ≡ true → take n (drop m (emit st r)) ≡ take n (drop m r)
   unfolding emit
   emit-part m n e = putAll-clear xs r laid-out l m n e
 
@@ -160,7 +160,7 @@ module _ (st : State) (r : List ℕ) (l : length r ≡ 120) where
   unfolding next
   next-emit a = rw (emit-kind, emit-kept [] a .sums)
 
-  -- Rebalanced once more, after the same state or another, it is what it would have been at once.
+  -- Rebalanced once more, after the same state or another, it is as if it had been so after the second alone.
   pub emit-over : (a : State) → emit a (emit st r) ≡ emit a r
   unfolding emit
   emit-over a = rw emit-kind (over-kind (storing st r) a r l)
@@ -169,6 +169,20 @@ module _ (st : State) (r : List ℕ) (l : length r ≡ 120) where
   emit-allowed : firstBad r ≡ Allowed → firstBad (emit st r) ≡ Allowed
   unfolding emit
   emit-allowed e = putAll-allowed xs r laid-out l (printable-stored (storing st r)) e
+
+  -- It passes the checks that rebalancing leaves alone, after whatever state, where it did before.
+  pub kept-emit : (name : List ℕ) (a : State) → keptFault name a r ≡ Pass → keptFault name a (emit st r) ≡ Pass
+  kept-emit name a e =
+      let p = kept-each name a r e in
+      let k = emit-kept name a in
+      kept-all name a (emit st r)
+      (record {
+        characters = ap charFault (emit-allowed (allowed-of (firstBad r) (p .characters)));
+        order = rw (emit-type, emit-kind) (p .order);
+        digits = rw emit-kind (k .fields ∙ p .digits);
+        number = rw (emit-kind, emit-number) (p .number);
+        own = rw emit-kind (k .own ∙ p .own);
+      })
 
   -- Its numeric fields are of digits after rebalancing, where the kept ones are.
   emit-numbers : badFields (keptFields (kindIn r)) (emit st r) ≡ Pass → badFields (fieldsOf (kindIn r)) (emit st r) ≡ Pass

@@ -49,6 +49,10 @@ module _ (s : List ℕ) (whole : length s % 120 ≡ 0) where
       length-flat (rebalanced st (recordsOf s)) (sized-rebalanced st (recordsOf s) sized-records)
       ∙ (ap (λ (n : ℕ). n * 120) (length-rebalanced st (recordsOf s)) ∙ (sym (length-flat (recordsOf s) sized-records) ∙ ap length flat-records))
 
+-- A flow of as many bytes as one of 1 to 546 whole records is of such.
+pub whole-same : (s t : List ℕ) → length t ≡ length s → Whole s → Whole t
+whole-same s t e w = record { short = rw e (w .short); some = rw e (w .some); even = rw e (w .even) }
+
 -- A flow of 1 to 546 whole records.
 module _ (s : List ℕ) (w : Whole s) where
   -- Where rebalancing mends its records, it is accepted after it, with the sums of its lines.
@@ -57,7 +61,7 @@ module _ (s : List ℕ) (w : Whole s) where
   judged-rebalanced m =
       let rs = recordsOf s in
       let e : length (flat (rebalanced startState rs)) ≡ length s = length-mended s (w .even) startState in
-      judged-whole (flat (rebalanced startState rs)) (record { short = rw e (w .short); some = rw e (w .some); even = rw e (w .even) })
+      judged-whole (flat (rebalanced startState rs)) (whole-same s (flat (rebalanced startState rs)) e w)
       ∙ (rw (name-mended (headNameOf s) startState rs refl m, flat-records s (w .even), records-flat (rebalanced startState rs) (sized-rebalanced startState rs (sized-records s (w .even)))) (rebalanced-accepted (headNameOf s) startState rs m))
 
 -- Rebalancing leaves every byte of an accepted flow.

@@ -12,7 +12,7 @@ use Rattle.judge.specs.Flow.{acceptedWith, closing, judgedFrom}
 use Rattle.judge.specs.Plain.{stateAfter, NoFault}
 use Rattle.rebalance.specs.Rebalance.{emit, rebalanced, allFit, Sized, Mendable}
 use Rattle.rebalance.proofs.Emit.{emit-length, next-emit, emit-passes, fault-kept, fault-fits, emit-own}
-use Rattle.rebalance.proofs.Rewritten.{like-rebalanced, same-state, same-rebalanced, same-fits}
+use Rattle.rebalance.proofs.Rewritten.{like-rebalanced, same-fits}
 
 -- Records that rebalancing mends are accepted after it, with the sums of their lines.
 pub rebalanced-accepted : (name : List ℕ) (st : State) (rs : List (List ℕ)) → Mendable name st rs → judgedFrom name st (rebalanced st rs) ≡ acceptedWith (stateAfter st rs)
@@ -44,14 +44,6 @@ pub sized-rebalanced : (st : State) (rs : List (List ℕ)) → Sized rs → Size
 unfolding rebalanced
 sized-rebalanced st [] s = tt
 sized-rebalanced st (r ∷ rs) s = (emit-length st r (s .0), sized-rebalanced (next st r) rs (s .1))
-
--- Rebalanced records lead to the same state.
-pub state-rebalanced : (st : State) (rs : List (List ℕ)) → Sized rs → stateAfter st (rebalanced st rs) ≡ stateAfter st rs
-state-rebalanced st rs s = same-state _ rs (like-rebalanced st rs s) st
-
--- Rebalancing again changes nothing.
-pub rebalanced-again : (st : State) (rs : List (List ℕ)) → Sized rs → rebalanced st (rebalanced st rs) ≡ rebalanced st rs
-rebalanced-again st rs s = same-rebalanced _ rs (like-rebalanced st rs s) st
 
 -- Records after others are rebalanced from the state that these lead to.
 pub rebalanced-append : (st : State) (xs ys : List (List ℕ)) → rebalanced st (xs ++ ys) ≡ rebalanced st xs ++ rebalanced (stateAfter st xs) ys

@@ -9,7 +9,6 @@ use Rattle.layout.specs.Kinds.{kindIn}
 use Rattle.rules.specs.declared.State.{State}
 use Rattle.rules.specs.State.{startState}
 use Rattle.rules.specs.Step.{next}
-use Rattle.judge.specs.Plain.{stateAfter}
 use Rattle.rebalance.specs.Rebalance.{emit, rebalanced, allFit, Sized}
 use Rattle.rebalance.specs.Weigh.{anyNegative}
 use Rattle.rebalance.proofs.Emit.{emit-kind, next-emit, emit-over, emit-plain}
@@ -21,7 +20,7 @@ pub record Like (x y : List ℕ) : Type 0 where
   pub written : (a : State) → emit a x ≡ emit a y
 
 -- A record is like itself.
-pub like-self : (r : List ℕ) → Like r r
+like-self : (r : List ℕ) → Like r r
 like-self r = record { kind = refl; step = λ a. refl; written = λ a. refl }
 
 -- A record after rebalancing is like it was before.
@@ -65,14 +64,6 @@ same-kinds [] [] h = refl
 same-kinds [] (y ∷ ys) h = absurd h
 same-kinds (x ∷ xs) [] h = absurd h
 same-kinds (x ∷ xs) (y ∷ ys) h = rw (h .0 .kind, same-kinds xs ys (h .1))
-
--- They lead to the same state.
-pub same-state : (xs ys : List (List ℕ)) → AllLike xs ys → (a : State) → stateAfter a xs ≡ stateAfter a ys
-unfolding stateAfter
-same-state [] [] h a = refl
-same-state [] (y ∷ ys) h a = absurd h
-same-state (x ∷ xs) [] h a = absurd h
-same-state (x ∷ xs) (y ∷ ys) h a = rw (h .0 .step a, same-state xs ys (h .1) (next a y))
 
 -- They are rebalanced alike.
 pub same-rebalanced : (xs ys : List (List ℕ)) → AllLike xs ys → (a : State) → rebalanced a xs ≡ rebalanced a ys

@@ -9,7 +9,6 @@ pub mod SlotColumns
 pub mod CarriesSheet
 pub mod NeverEight
 pub mod FilledAlike
-pub mod OtherState
 pub mod OnlyFlow
 pub mod AsJudged
 pub mod Settled

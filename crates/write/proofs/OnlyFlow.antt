@@ -21,7 +21,7 @@ use Rattle.judge.specs.Flow.{recordsOf, headNameOf}
 use Rattle.judge.specs.Plain.{NoFault, Sound}
 use Rattle.judge.proofs.Accepted.{accepted-means-no-fault}
 use Rattle.rebalance.specs.Rebalance.{emit, rebalanced, fitsAll, allFit, flat, Sized}
-use Rattle.rebalance.proofs.Emit.{KeptEach, kept-each, emit-length, emit-kind, next-emit, emit-over, fault-kept, fault-fits, emit-own}
+use Rattle.rebalance.proofs.Emit.{KeptEach, kept-each, emit-length, emit-kind, kept-emit, next-emit, emit-over, fault-kept, fault-fits, emit-own}
 use Rattle.rebalance.proofs.Flat.{name-in-front}
 use Rattle.rebalance.proofs.Judged.{sized-records, flat-records}
 use Rattle.sheet.specs.Sheet.{Entry, entry}
@@ -37,7 +37,6 @@ use Rattle.write.proofs.WrittenFlow.{entries-in, name-length, length-wr
 use Rattle.write.proofs.CarriesSheet.{written-carries}
 use Rattle.rebalance.proofs.Numbered.{number-held}
 use Rattle.write.proofs.FilledAlike.{filled-alike, held-filled, name-held}
-use Rattle.write.proofs.OtherState.{kept-other}
 
 -- A record that passes every check after a state, and one to be written that it carries.
 module _ (name : List ℕ) (n : length name ≡ 20) (st : State) (e : Entry) (a : Entered e) (r : List ℕ) (l : length r ≡ 120) (p : fault name st r ≡ Pass) (k : kindIn r ≡ e .slot)
@@ -58,7 +57,7 @@ module _ (name : List ℕ) (n : length name ≡ 20) (st : State) (e : Entry) (a 
   unfolding entryFault
   carried-passes =
       let q = emit startState r in
-      let m = kept-other startState st r l name (fault-kept st r l name p) in
+      let m = kept-emit startState r l name st (fault-kept st r l name p) in
       let s = slot-exactly q (emit-length startState r l) (a .in-slot) .1 (emit-kind startState r l ∙ k) in
       rw (carried-filled, kept-each name st q m .characters, s) m
 

@@ -2,7 +2,8 @@
 use Rattle.layout.proofs.Table.{near-rule}
 use Rattle.correct.specs.Correction.{replaced}
 use Rattle.correct.specs.Writing.{amountsPut}
-use Rattle.correct.proofs.Undone.{tried-debit, tried-credit, tried-wrong, tried-weighed, line-room}
+use Rattle.correct.proofs.Undone.{tried-debit, tried-credit, tried-wrong, tried-weighed}
+use Rattle.correct.proofs.Putting.{line-room}
 use native.Mathlib.Omega.{arith}
 use mathlib.Core.Path.{refl, sym, _∙_}
 use borrow.Author.Needs.{needs}

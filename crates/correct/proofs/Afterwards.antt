@@ -19,7 +19,7 @@ use Rattle.correct.specs.declared.Correction.the-variants.{Made}
 use Rattle.correct.specs.Correction.{sectionOf, correctionOf, correctedBytes}
 use Rattle.correct.specs.Effect.{withAmounts, debitOf, creditOf}
 use Rattle.correct.proofs.Amended.{debit-amended, credit-amended}
-use Rattle.correct.proofs.Split.{Split, line-splits, length-here, within-table}
+use Rattle.correct.proofs.Split.{line-splits, length-here, within-table}
 use Rattle.correct.proofs.Answered.{Passed}
 use Rattle.correct.proofs.Conditions.{made-passed, made-bytes}
 use Rattle.correct.proofs.StaysAccepted.{accepted-whole, amounts-whole, refreshed-accepted, corrected-accepted}
@@ -29,15 +29,12 @@ use Rattle.correct.proofs.SameAmounts.{Own, own, own-flow, same-amounts
 
 -- A correction that may be made, and the flow that it leaves.
 module _ (f : List ℕ) (d subtype n x y : ℕ) (m : Passed f d subtype n x y) where
-  -- The flow is of whole records; it with the line's amounts replaced, and that refreshed.
+  -- The flow is of whole records, and so it is with the line's amounts replaced.
   abbrev w : Whole f
   w = accepted-whole f (m .accepted)
 
   abbrev t : List ℕ
   t = withAmounts f d subtype n x y
-
-  abbrev g : List ℕ
-  g = refreshed t
 
   abbrev wt : length t % 120 ≡ 0
   wt = amounts-whole f d subtype n x y m .even
