@@ -7,6 +7,7 @@ use crate::dropped::Account;
 use crate::dropping::Droppings;
 use crate::list_call::{Compared, Difference};
 use crate::rng::Rng;
+use crate::sorts::Least;
 use crate::sound::{self, Pool};
 use crate::{at, folder, progress, trap, Failure};
 use std::fs;
@@ -109,16 +110,7 @@ fn every_room(droppings: &mut Droppings, pool: &Pool) -> Compared<()> {
     Ok(())
 }
 
-/// Says what came up least, and whether that was too seldom for so many to say
-/// much.
+/// Says what came up least, and whether that was too seldom.
 pub fn is_seldom(droppings: &Droppings, many: u64) -> bool {
-    let mut seldom = false;
-    for (times, what) in droppings.tally.rarest().into_iter().flatten().filter(|_| many > 0) {
-        println!("rarest: {what}, {times} times");
-        seldom |= many >= FULL && times < FEWEST;
-    }
-    if seldom {
-        eprintln!("compare: something came up fewer than {FEWEST} times in droppings");
-    }
-    seldom
+    Least { full: FULL, fewest: FEWEST }.is_missed(droppings.tally.rarest(), many, "droppings")
 }

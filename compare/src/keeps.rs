@@ -12,6 +12,7 @@ use crate::keeping::{Case, Keepings};
 use crate::kept::{self, Account};
 use crate::list_call::{Compared, MORE};
 use crate::rng::Rng;
+use crate::sorts::Least;
 use crate::sound::{self, Pool};
 use crate::{at, folder, progress, trap, Failure};
 use std::fs;
@@ -197,16 +198,7 @@ fn every_room(keepings: &mut Keepings, pool: &Pool) -> Compared<()> {
     Ok(())
 }
 
-/// Says what came up least, and whether that was too seldom for so many to say
-/// much.
+/// Says what came up least, and whether that was too seldom.
 pub fn is_seldom(keepings: &Keepings, many: u64) -> bool {
-    let mut seldom = false;
-    for (times, what) in keepings.tally.rarest().into_iter().flatten().filter(|_| many > 0) {
-        println!("rarest: {what}, {times} times");
-        seldom |= many >= FULL && times < FEWEST;
-    }
-    if seldom {
-        eprintln!("compare: something came up fewer than {FEWEST} times in series with a record");
-    }
-    seldom
+    Least { full: FULL, fewest: FEWEST }.is_missed(keepings.tally.rarest(), many, "series with a record")
 }

@@ -6,6 +6,7 @@ use crate::pair_flows::{self, Pair};
 use crate::pair_report::Difference;
 use crate::pairing::Pairings;
 use crate::rng::Rng;
+use crate::sorts::Least;
 use crate::sound::Pool;
 use crate::{at, folder, progress, trap, Failure};
 use std::fs;
@@ -82,16 +83,7 @@ fn refused(rng: &mut Rng, file: &str, flow: &[u8]) -> Result<(), Failure> {
     Ok(())
 }
 
-/// Says what came up least, and whether that was too seldom for so many to say
-/// much.
+/// Says what came up least, and whether that was too seldom.
 pub fn is_seldom(pairings: &Pairings, many: u64) -> bool {
-    let mut seldom = false;
-    for (times, what) in pairings.tally.rarest().into_iter().flatten().filter(|_| many > 0) {
-        println!("rarest: {what}, {times} times");
-        seldom |= many >= FULL && times < FEWEST;
-    }
-    if seldom {
-        eprintln!("compare: something came up fewer than {FEWEST} times in pairs");
-    }
-    seldom
+    Least { full: FULL, fewest: FEWEST }.is_missed(pairings.tally.rarest(), many, "pairs")
 }

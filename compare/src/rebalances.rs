@@ -7,6 +7,7 @@ use crate::mended::Account;
 use crate::rebalance_damage::{self, Case, Made};
 use crate::rebalancing::Rebalancings;
 use crate::rng::Rng;
+use crate::sorts::Least;
 use crate::sound::{self, Pool};
 use crate::{at, folder, progress, trap, Failure};
 use std::fs;
@@ -105,16 +106,7 @@ fn every_room(rebalancings: &mut Rebalancings, pool: &Pool) -> Compared<()> {
     Ok(())
 }
 
-/// Says what came up least, and whether that was too seldom for so many to say
-/// much.
+/// Says what came up least, and whether that was too seldom.
 pub fn is_seldom(rebalancings: &Rebalancings, many: u64) -> bool {
-    let mut seldom = false;
-    for (times, what) in rebalancings.tally.rarest().into_iter().flatten().filter(|_| many > 0) {
-        println!("rarest: {what}, {times} times");
-        seldom |= many >= FULL && times < FEWEST;
-    }
-    if seldom {
-        eprintln!("compare: something came up fewer than {FEWEST} times in rebalancings");
-    }
-    seldom
+    Least { full: FULL, fewest: FEWEST }.is_missed(rebalancings.tally.rarest(), many, "rebalancings")
 }

@@ -11,7 +11,7 @@ use crate::portion::{Compared, Difference, Gave, Numbers, Portions, ANSWERS};
 use crate::quick;
 use crate::rng::Rng;
 use crate::series_sorts::SORTS;
-use crate::sorts;
+use crate::sorts::{self, Least};
 use crate::sound::{self, Pool};
 use crate::{at, progress, trap, Failure};
 use std::fs;
@@ -84,15 +84,7 @@ impl Series {
     /// Says what came up least, and whether that was too seldom for so many series
     /// to say much.
     pub fn is_seldom(&self, many: u64) -> bool {
-        let mut seldom = false;
-        for (times, what) in self.rarest().into_iter().flatten().filter(|_| many > 0) {
-            println!("rarest: {what}, {times} times");
-            seldom |= many >= FULL && times < FEWEST;
-        }
-        if seldom {
-            eprintln!("compare: something came up fewer than {FEWEST} times in series");
-        }
-        seldom
+        Least { full: FULL, fewest: FEWEST }.is_missed(self.rarest(), many, "series")
     }
 
     pub fn print(&self, many: u64) {
