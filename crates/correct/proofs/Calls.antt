@@ -32,7 +32,7 @@ There t c = lineFor t c ≡ 0 → ⊥
 abbrev pub Passes : List ℕ → Call → Type 0
 Passes f c = Passed f (c .delega) (c .subtype) (c .nth) (c .debit) (c .credit)
 
--- A call is made where it may be, and then leaves the flow with its line's amounts replaced and refreshed.
+-- A call that is made may be made, and leaves the flow with its line's amounts replaced and refreshed.
 pub call-passes : (f : List ℕ) (c : Call) → answerTo f c ≡ Made → Passes f c
 call-passes f c = made-passed f (c .delega) (c .subtype) (c .nth) (c .debit) (c .credit) .0
 
@@ -68,7 +68,7 @@ module _ (t : List ℕ) (w : length t % 120 ≡ 0) where
 pub calls-commute : (t : List ℕ) → length t % 120 ≡ 0 → (a b : Call) → There t a → There t b → (lineFor t a ≡ lineFor t b → ⊥) → withCall (withCall t a) b ≡ withCall (withCall t b) a
 calls-commute t w a b i j apart = amounts-commute t w (a .delega) (a .subtype) (a .nth) i (b .delega) (b .subtype) (b .nth) j apart (a .debit) (a .credit) (b .debit) (b .credit)
 
--- In an accepted flow lines of different names are two.
+-- In an accepted flow lines of different names are two records.
 pub names-apart : (f : List ℕ) → judged f .verdict ≡ Accepted → (a b : Call) → There f b → Different a b → lineFor f a ≡ lineFor f b → ⊥
 names-apart f acc a b there different e =
     let i = named-line f (a .delega) (a .subtype) (a .nth) (lineFor f b) acc e there in

@@ -27,6 +27,7 @@ corrections-own (c ∷ cs) f =
     let r = call-owns (Correct c) (own f) refl ∙ ap keptOf e in
     ap (afterCalls (map Correct cs)) (ap₂ (λ (g : List ℕ) (k : KeptSums). record { flow = g; kept = k }) e r) ∙ corrections-own cs _
 
+-- So it is from an accepted flow and the record made of it.
 pub corrections-plain : (cs : List Call) (f : List ℕ) → judged f .verdict ≡ Accepted → (afterCalls (map Correct cs) (withKept f) .flow ≡ after cs f) × (afterCalls (map Correct cs) (withKept f) .kept ≡ keptOf (after cs f))
 corrections-plain cs f a =
     let e : withKept f ≡ own f = ap (λ (k : KeptSums). record { flow = f; kept = k }) (kept-made f a) in
