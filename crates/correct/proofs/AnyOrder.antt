@@ -24,6 +24,7 @@ two-reordered R turn (Keep c r) h = (each-reordered (R c) r (h .0), two-reordere
 two-reordered R turn (Swap a b cs) h = ((turn a b (h .0 .0), h .1 .0), (h .0 .1, h .1 .1))
 two-reordered R turn (Then r s) h = two-reordered R turn s (two-reordered R turn r h)
 
+-- What holds of each two follows where it follows of any two.
 two-map : {R S : Call → Call → Type 0} → ((a b : Call) → R a b → S a b) → (cs : List Call) → EachTwo R cs → EachTwo S cs
 two-map f [] h = tt
 two-map f (c ∷ cs) h = (each-map (f c) cs (h .0), two-map f cs (h .1))
@@ -32,6 +33,7 @@ two-map f (c ∷ cs) h = (each-map (f c) cs (h .0), two-map f cs (h .1))
 abbrev Apart : List ℕ → Call → Call → Type 0
 Apart t a b = There t b → lineFor t a ≡ lineFor t b → ⊥
 
+-- That goes either way round.
 apart-turned : (t : List ℕ) (a b : Call) → Apart t a b → Apart t b a
 apart-turned t a b h i e = h (λ z. i (sym e ∙ z)) (sym e)
 

@@ -85,6 +85,7 @@ module _ (f : List ℕ) (d subtype n x y : ℕ) (m : Passed f d subtype n x y) (
       rw (records-replaced f (w .even) p x y, p .split)
       (around d (sectionOf subtype) e other startState noneUsed (p .before) (amended (sectionOf subtype) x y (p .here)) (p .here) (p .behind) (p .number) (amounts-kind f (w .even) d subtype n (m .found) x y) (p .kind))
 
+  -- So it is of the flow that is left.
   refreshed-delega : delegaOf (refreshed (withAmounts f d subtype n x y)) e ≡ delegaOf f e
   refreshed-delega =
       let a = refreshed-accepted f d subtype n x y m in

@@ -171,8 +171,8 @@ module _ (st : State) (r : List ℕ) (l : length r ≡ 120) where
   emit-allowed e = putAll-allowed xs r laid-out l (printable-stored (storing st r)) e
 
   -- It passes the checks that rebalancing leaves alone, after whatever state, where it did before.
-  pub kept-emit : (name : List ℕ) (a : State) → keptFault name a r ≡ Pass → keptFault name a (emit st r) ≡ Pass
-  kept-emit name a e =
+  pub emit-passes-kept : (name : List ℕ) (a : State) → keptFault name a r ≡ Pass → keptFault name a (emit st r) ≡ Pass
+  emit-passes-kept name a e =
       let p = kept-each name a r e in
       let k = emit-kept name a in
       kept-all name a (emit st r)

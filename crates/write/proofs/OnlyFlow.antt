@@ -21,7 +21,7 @@ use Rattle.judge.specs.Flow.{recordsOf, headNameOf}
 use Rattle.judge.specs.Plain.{NoFault, Sound}
 use Rattle.judge.proofs.Accepted.{accepted-means-no-fault}
 use Rattle.rebalance.specs.Rebalance.{emit, rebalanced, fitsAll, allFit, flat, Sized}
-use Rattle.rebalance.proofs.Emit.{KeptEach, kept-each, emit-length, emit-kind, kept-emit, next-emit, emit-over, fault-kept, fault-fits, emit-own}
+use Rattle.rebalance.proofs.Emit.{KeptEach, kept-each, emit-length, emit-kind, emit-passes-kept, next-emit, emit-over, fault-kept, fault-fits, emit-own}
 use Rattle.rebalance.proofs.Flat.{name-in-front}
 use Rattle.rebalance.proofs.Judged.{sized-records, flat-records}
 use Rattle.sheet.specs.Sheet.{Entry, entry}
@@ -57,7 +57,7 @@ module _ (name : List ℕ) (n : length name ≡ 20) (st : State) (e : Entry) (a 
   unfolding entryFault
   carried-passes =
       let q = emit startState r in
-      let m = kept-emit startState r l name st (fault-kept st r l name p) in
+      let m = emit-passes-kept startState r l name st (fault-kept st r l name p) in
       let s = slot-exactly q (emit-length startState r l) (a .in-slot) .1 (emit-kind startState r l ∙ k) in
       rw (carried-filled, kept-each name st q m .characters, s) m
 
