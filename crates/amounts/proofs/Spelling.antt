@@ -52,12 +52,12 @@ same-lengths (a ∷ l) (b ∷ bs) n = go (eqb a b) (same-lengths l bs (λ e. n (
     go false e = refl
 
 -- Bytes that are found the same are equal.
-pub same_bytes : (l k : List ℕ) → same_bytes l k ≡ true → l ≡ k
+pub same_bytes_lem : (l k : List ℕ) → same_bytes l k ≡ true → l ≡ k
 unfolding same_bytes
-same_bytes [] [] e = refl
-same_bytes [] (b ∷ bs) e = absurd (false≢true e)
-same_bytes (a ∷ l) [] e = absurd (false≢true e)
-same_bytes (a ∷ l) (b ∷ bs) e = go (eqb a b) refl e (same_bytes l bs)
+same_bytes_lem [] [] e = refl
+same_bytes_lem [] (b ∷ bs) e = absurd (false≢true e)
+same_bytes_lem (a ∷ l) [] e = absurd (false≢true e)
+same_bytes_lem (a ∷ l) (b ∷ bs) e = go (eqb a b) refl e (same_bytes_lem l bs)
   where
     go : (t : Bool) → eqb a b ≡ t → cond t (same_bytes l bs) false ≡ true → (same_bytes l bs ≡ true → l ≡ bs) → a ∷ l ≡ b ∷ bs
     go true p q ih = ap₂ ◌∷◌ (eqb-true a b p) (ih q)

@@ -1,4 +1,6 @@
 // The rules on what a field holds: amounts, dates and support names; and the outcome of a check.
+#![tactic(auto)]
+
 mod dates;
 mod names;
 
@@ -9,14 +11,14 @@ pub use dates::date_right;
 pub use names::{name_right, same_bytes};
 
 // A debit and a credit sum.
-#[derive(Drop)]
+#[derive(Clone, Copy)]
 pub struct Sums {
     pub debit: u64,
     pub credit: u64,
 }
 
 // The first failed check of a record, its number and position, or none.
-#[derive(Drop)]
+#[derive(Clone, Copy)]
 pub enum Outcome {
     Pass,
     Fault(u64, usize),

@@ -1,4 +1,6 @@
 // The numbers in which the library writes its answers: a refusal, a summary, a delega, a portion and the state after it.
+#![tactic(auto)]
+
 ghost use Rattle.std.specs.Prelude.{◌≡◌, ◌≤◌, ◌∷◌, length};
 ghost use Rattle.state.specs.Numbers.{overlay, sums_numbers};
 ghost use Rattle.answers.specs.Numbers.{summary_numbers, delega_numbers, refusal_numbers, course_code, portion_numbers, handed_back};

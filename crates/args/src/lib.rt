@@ -1,9 +1,11 @@
 // The words that a program is started with.
+#![tactic(auto)]
+
 ghost use Rattle.std.specs.Prelude.{◌≡◌};
 ghost use Rattle.args.specs.Decimal.{decimal_of};
 
 // What a word says: a number, or none.
-#[derive(Drop)]
+#[derive(Clone, Copy)]
 pub enum Argument {
     Number(u64),
     NoNumber,

@@ -10,7 +10,7 @@ use Rattle.layout.specs.declared.Field.{Field}
 use Rattle.layout.specs.Kinds.{kind_in}
 use Rattle.layout.specs.Fields.{bytes_of}
 use Rattle.amounts.specs.Names.{same_bytes}
-use Rattle.amounts.proofs.Spelling.{same_bytes, same-itself}
+use Rattle.amounts.proofs.Spelling.{same_bytes_lem, same-itself}
 use Rattle.rules.specs.State.{start_state}
 use Rattle.judge.specs.Flow.{records_of}
 use Rattle.judge.specs.Plain.{Whole}
@@ -40,7 +40,7 @@ in_either (p ∷ ps) qs (behind h) = ⊎_elim (λ i. inl (behind i)) (λ i. inr 
 module _ (f : Field) (old new : List ℕ) where
   staying : stays f old new ≡ true → bytes_of old f ≡ bytes_of new f
   unfolding stays
-  staying e = same_bytes _ _ e
+  staying e = same_bytes_lem _ _ e
 
   differing : stays f old new ≡ false → bytes_of old f ≡ bytes_of new f → ⊥
   unfolding stays

@@ -1,4 +1,6 @@
 // The fields in which a flow differs from its rebalancing, listed by record and start.
+#![tactic(auto)]
+
 ghost use Rattle.std.specs.Prelude.{◌≡◌, [], ◌∷◌, ◌+◌, ◌≤◌, length};
 ghost use Rattle.layout.specs.Kinds.{kind_in};
 ghost use Rattle.layout.specs.Fields.{listed};

@@ -1,4 +1,6 @@
 // A flow closed up, in place, over deleghe whose numbers are in a list: the records that stay, numbered from 1, and spaces behind them.
+#![tactic(auto)]
+
 mod numbers;
 
 ghost use Rattle.std.specs.Prelude.{◌≡◌, ◌+◌, ◌*◌, ◌<◌, ◌≤◌, ◌++◌, length, take, drop, replicate};
@@ -16,7 +18,7 @@ use numbers::names;
 use text::Digits;
 
 // How far closing up has come: the records that stay so far, and the deleghe that begin among them.
-#[derive(Drop)]
+#[derive(Clone, Copy)]
 struct Kept {
     records: usize,
     deleghe: u64,

@@ -11,7 +11,7 @@ use Rattle.text.specs.Placing.{put_at, number_bytes}
 use Rattle.text.proofs.Bytes.{part_length}
 use Rattle.text.proofs.Numerals.{length_digits}
 use Rattle.text.proofs.Puts.{put-before, put_same, put-over, put_back}
-use Rattle.text.proofs.Fits.{number_fits, number-written}
+use Rattle.text.proofs.Fits.{number_fits_lem, number-written}
 use Rattle.rules.specs.State.{start_state}
 use Rattle.amounts.specs.Amounts.{line_right}
 use Rattle.judge.specs.Flow.{records_of}
@@ -36,9 +36,9 @@ module _ (f : List ℕ) (d c : ℕ) (room : Room f d c) where
     amounts-written l₁ l₂ hx hy e₁ e₂ =
         let i = room.inside in
         let a = room.apart in
-        let p = e₁ ∙ (number-written c 15 y f (number_fits c 15 y (length f) i hy.digits)).1 in
+        let p = e₁ ∙ (number-written c 15 y f (number_fits_lem c 15 y (length f) i hy.digits)).1 in
         let n : length l₁ ≡ length f = ap length p ∙ length-credit f d c room y in
-        e₂ ∙ ((number-written d 15 x l₁ (number_fits d 15 x (length l₁) (omega arith) hx.digits)).1 ∙ ap (put_at d (digits_of 15 x)) p)
+        e₂ ∙ ((number-written d 15 x l₁ (number_fits_lem d 15 x (length l₁) (omega arith) hx.digits)).1 ∙ ap (put_at d (digits_of 15 x)) p)
 
     -- What stood there, put back, restores the flow.
     undone : put_at c (take 15 (drop c f)) (put_at d (take 15 (drop d f)) (amounts_put d c x y f)) ≡ f

@@ -1,4 +1,6 @@
 // The correction of one line: its amounts replaced, and every total, sign, balance and tail sum worked out afresh from all the lines.
+#![tactic(auto)]
+
 ghost use Rattle.std.specs.Prelude.{◌≡◌, ◌+◌, ◌≤◌, length, take, drop};
 ghost use Rattle.text.specs.Placing.{put_at};
 ghost use Rattle.judge.specs.Plain.{Whole};
@@ -10,7 +12,7 @@ use find::Found;
 use layout::{Amount, Flow, Kind};
 
 // The answer: made, or the refusal.
-#[derive(Drop)]
+#[derive(Clone, Copy)]
 pub enum Correction {
     Made,
     Refused(u64, usize, usize),

@@ -2,6 +2,8 @@
 // ones and, where the correction is made, the judgement of the new flow are printed.
 // A case is a line of 153 bytes: its name in 40, then, each after a space, five numbers in 20 digits and a length in six. Below it
 // stand that many bytes of the flow, a line end, as many expected bytes, and a line end.
+#![tactic(auto)]
+
 use correct::Correction;
 use desk::Numbers;
 use libc::STDOUT_FILENO;

@@ -1,11 +1,13 @@
 // The run cases of the date: a stored flow is judged with each number of six digits in the place of its date, by year, then month, then day. Where the
 // answer is another than for the date before, the date and the answer are printed. So these lines tell a million answers.
+#![tactic(auto)]
+
 use judge::Verdict;
 use layout::Position;
 use libc::STDOUT_FILENO;
 
 // The refusal's number, record and position; zeros where the flow is accepted.
-#[derive(Drop)]
+#[derive(Clone, Copy)]
 struct Answer {
     number: u64,
     at: usize,

@@ -1,4 +1,6 @@
 // One delega of a flow: its final balance, its lines, the sections that it uses, and its ten section sums.
+#![tactic(auto)]
+
 mod used;
 
 ghost use Rattle.std.specs.Prelude.{◌≡◌};
@@ -16,7 +18,7 @@ use rules::State;
 
 // The verdict beside the delega's final balance, the number of its lines, the set of the sections that it uses with its size and its first, and its sums of each of
 // the five sections. All are zeros with a refusal.
-#[derive(Drop)]
+#[derive(Clone, Copy)]
 pub struct DelegaAnswer {
     pub verdict: Verdict,
     pub balance: u64,

@@ -5,7 +5,7 @@ ghost use Rattle.delega.specs.Used.{bit_of, none_used, used_with, next_used, siz
 use layout::Kind;
 
 // The lines of the open delega so far, and the sections that they are of.
-#[derive(Drop)]
+#[derive(Clone, Copy)]
 pub struct Used {
     pub lines: u64,
     pub set: u64,

@@ -2,6 +2,8 @@
 // gate runs, how a stored case is read.
 // What comes from or goes to a descriptor, and what the arguments are, is outside what a contract can say: a function that only prints or
 // asks promises that it is safe and ends. What can be said of an answer or of lent room is said.
+#![tactic(auto)]
+
 mod answers;
 mod cases;
 mod messages;
@@ -22,7 +24,7 @@ pub use replacing::{open_old, replace};
 pub use saving::{is_link, put_name, stored, tell_of, unsaved};
 
 // Whose a file is, and who may use it.
-#[derive(Drop)]
+#[derive(Clone, Copy)]
 pub struct Access {
     pub owner: u32,
     pub group: u32,
@@ -30,14 +32,14 @@ pub struct Access {
 }
 
 // A file that is to be replaced by another: its descriptor, negative where it cannot be, and its access.
-#[derive(Drop)]
+#[derive(Clone, Copy)]
 pub struct Old {
     pub fd: i32,
     pub access: Access,
 }
 
 // The five numbers of a run case's call.
-#[derive(Drop)]
+#[derive(Clone, Copy)]
 pub struct Numbers {
     pub first: u64,
     pub second: u64,

@@ -3,6 +3,8 @@
 // A case is a line of 153 bytes: its name in 40, then, each after a space, five numbers in 20 digits and a length in six. The first number is how many numbers are stored,
 // and the length is that of the flow. Below it stand the flow, a line end, as many expected bytes, a line end, the numbers in 20 digits each with a space behind it, and a
 // line end.
+#![tactic(auto)]
+
 use dropping::Dropping;
 use layout::Flow;
 use libc::STDOUT_FILENO;

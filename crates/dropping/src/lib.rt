@@ -1,4 +1,6 @@
 // Cancelled deleghe are dropped from an accepted flow, in place.
+#![tactic(auto)]
+
 ghost use Rattle.std.specs.Prelude.{◌≡◌, length};
 ghost use Rattle.close.specs.Closing.{spaced};
 ghost use Rattle.dropping.specs.Dropping.{shortened, weighed, flow_by, dropping_of, dropped_flow};
@@ -7,7 +9,7 @@ ghost use Rattle.dropping.specs.Inner.{Judged, Droppable};
 use judge::Verdict;
 
 // The answer: dropped, with the new length of the flow; or the refusal.
-#[derive(Drop)]
+#[derive(Clone, Copy)]
 pub enum Dropping {
     Dropped(usize),
     Refused(u64, usize, usize),

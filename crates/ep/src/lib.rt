@@ -1,4 +1,5 @@
 // The records M and V of the F24 EP form, one behind the other: judged record by record, all of them lent at once, or piece by piece as they are read.
+#![tactic(auto)]
 
 mod stream;
 
@@ -22,7 +23,7 @@ const TOTAL_START: usize = 1872;
 const TOTAL_END: usize = 1887;
 
 // What a record is.
-#[derive(Drop)]
+#[derive(Clone, Copy)]
 pub enum Kind {
     RecordM,
     RecordV,
@@ -30,14 +31,14 @@ pub enum Kind {
 }
 
 // The first failed check, its number and the number of the record that it is told of, or none.
-#[derive(Drop)]
+#[derive(Clone, Copy)]
 pub enum Outcome {
     Pass,
     Fault(u64, usize),
 }
 
 // The answer: the count of M and the sum of their totals, or number, record and position of the refusal.
-#[derive(Drop)]
+#[derive(Clone, Copy)]
 pub enum EpAnswer {
     Accepted(u64, u64),
     Refused(u64, usize, usize),
@@ -45,7 +46,7 @@ pub enum EpAnswer {
 
 // What the records so far have established: how many they are, how many of them are M and what all V add up to; and of the last M its number, whether a V has
 // followed it, what those that have add up to, and what its own total says.
-#[derive(Drop)]
+#[derive(Clone, Copy)]
 pub struct Tally {
     pub seen: usize,
     pub count: u64,
@@ -57,7 +58,7 @@ pub struct Tally {
 }
 
 // What a record comes to.
-#[derive(Drop)]
+#[derive(Clone, Copy)]
 pub struct Step {
     pub tally: Tally,
     pub outcome: Outcome,
@@ -65,7 +66,7 @@ pub struct Step {
 
 // What pieces of the records, one behind the other, have come to: whether their lengths are those of records and they are not too many, how many they are, the first fault and, up to
 // there, what they have established.
-#[derive(Drop)]
+#[derive(Clone, Copy)]
 pub struct Course {
     pub fits: bool,
     pub records: usize,

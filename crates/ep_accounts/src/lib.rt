@@ -1,4 +1,6 @@
 // A record V of the F24 EP form, which carries the accounts ("dati contabili") of one paper form: its 28 rows and its final balance.
+#![tactic(auto)]
+
 ghost use Rattle.std.specs.Prelude.{◌≡◌, ◌+◌, ◌<◌, length};
 ghost use Rattle.ep_accounts.specs.Accounts.{row_count, debit_of, debits_in, balance_in, accounts_in};
 
@@ -25,7 +27,7 @@ const BALANCE: usize = 1787;
 const BALANCE_END: usize = 1802;
 
 // What the accounts of a V come to: the sum of its used debits, which is its final balance, or what is wrong with them.
-#[derive(Drop)]
+#[derive(Clone, Copy)]
 pub enum Accounts {
     Sum(u64),
     NonDigit,

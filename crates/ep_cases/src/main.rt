@@ -1,5 +1,7 @@
 // The run cases of the F24 EP form: the records of each stored case are judged, and its name and the answer are printed.
 // A case is a line of 48 bytes, its name in 40 and its length in six digits, then that many bytes, then a line end.
+#![tactic(auto)]
+
 use ep::EpAnswer;
 
 // An answer, as it is printed.

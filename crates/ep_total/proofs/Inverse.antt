@@ -9,7 +9,7 @@ use borrow.Author.Tests.{eqb-true}
 use lib.Dec.{eqb}
 use lib.ListN.{length}
 use Rattle.text.specs.Same.{same_bytes}
-use Rattle.text.proofs.Same.{same_bytes, same-itself}
+use Rattle.text.proofs.Same.{same_bytes_lem, same-itself}
 use Rattle.ep_total.specs.declared.Total.TheVariants.{Cents, NoTotal}
 use Rattle.ep_total.specs.Total.{total_field, digits_in, own_text, total_of}
 use Rattle.ep_total.proofs.Texts.{digits-field, text-short, text-long, field-length, field-long}
@@ -25,7 +25,7 @@ unfolding own_text
 own-only t m n e = go (same_bytes t (total_field m)) refl e
   where
     go : (b : Bool) → same_bytes t (total_field m) ≡ b → cond b (Cents m) NoTotal ≡ Cents n → t ≡ total_field n
-    go true p q = let s : m ≡ n = cc in rw (← s) (same_bytes t (total_field m) p)
+    go true p q = let s : m ≡ n = cc in rw (← s) (same_bytes_lem t (total_field m) p)
     go false p q = let z : ◌≡◌ {A = ℕ} 0 1 = cc in absurd (omega arith)
 
 -- What is read was written, and the number is one that has a text of fifteen characters.

@@ -1,4 +1,6 @@
 // The total of a record M of the F24 EP form: the one text of a number of cents, and the number that a text says.
+#![tactic(auto)]
+
 ghost use Rattle.std.specs.Prelude.{◌∷◌, ◌≡◌, ◌+◌, ◌≤◌, ◌<◌, length};
 ghost use Rattle.text.specs.Numbers.{digits_of};
 ghost use Rattle.printing.specs.Appended.{Appended};
@@ -11,7 +13,7 @@ const TOTAL: usize = 15;
 const ROOM: usize = 40;
 
 // What the text of a total says.
-#[derive(Drop)]
+#[derive(Clone, Copy)]
 pub enum Total {
     Cents(u64),
     NoTotal,

@@ -3,6 +3,8 @@
 // records of the F24 EP form.
 // Each function returns 0, the number of a refusal, or 100 where a room is too short; the judgement by portions also 101 where it has not ended and 102 where it is
 // given a foreign state. The numbers behind those that a function writes stay as they came.
+#![tactic(auto)]
+
 mod ep_calls;
 mod kept_calls;
 

@@ -1,11 +1,13 @@
 // Corrects one line of the flow in a file, and saves the corrected flow there.
+#![tactic(auto)]
+
 use args::Argument;
 use correct::Correction;
 use desk::{Access, Old};
 use layout::Flow;
 
 // A line to correct, and its new amounts.
-#[derive(Drop)]
+#[derive(Clone, Copy)]
 struct Call {
     delega: u64,
     subtype: u64,

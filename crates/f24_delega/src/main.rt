@@ -1,4 +1,6 @@
 // Prints the final balance, the lines, the sections used and the section sums of one delega of the flow in a file.
+#![tactic(auto)]
+
 use args::Argument;
 use layout::Flow;
 

@@ -1,4 +1,6 @@
 // Drops deleghe from the flow in a file, and saves the flow that is left there.
+#![tactic(auto)]
+
 use args::Argument;
 use desk::{Access, Old};
 use dropping::Dropping;

@@ -1,6 +1,8 @@
 // The judging program for the F24 EP form: the records in the file that its argument names, or from standard input where it has none, are judged, and the answer is
 // printed. They are read one by one, and one is held in memory at a time.
 // What a read puts into the room is outside what a contract can say: it is promised that there are bytes of which the answer is the judgement, and not that the file has them.
+#![tactic(auto)]
+
 ghost use Rattle.std.specs.Prelude.{false, ◌≡◌};
 ghost use Rattle.f24_ep.specs.Reading.{FromPieces, FromBytes};
 
@@ -11,14 +13,14 @@ use ep_accounts::RECORD;
 const MOST_PIECES: usize = ep::MOST_RECORDS + 1;
 
 // What the pieces that were read have come to, and whether every read went well.
-#[derive(Drop)]
+#[derive(Clone, Copy)]
 struct Pieces {
     read: bool,
     course: Course,
 }
 
 // What is answered, and whether every read went well.
-#[derive(Drop)]
+#[derive(Clone, Copy)]
 struct Told {
     read: bool,
     answer: EpAnswer,

@@ -1,5 +1,7 @@
 // The judging program: the flow in the file that its argument names, or from standard input where it has none, is judged, and the answer printed. With
 // --portion N before the file it is judged over several calls, each of which examines N records at most, and behind the answer stands what they examined.
+#![tactic(auto)]
+
 ghost use Rattle.std.specs.Prelude.{◌≡◌};
 ghost use Rattle.f24_judge.specs.InTurn.{goes_on, calls_of};
 
@@ -9,7 +11,7 @@ use layout::Flow;
 use portion::{Course, Portion};
 
 // What calls in a row have come to: the answer of the last one, and how many they were.
-#[derive(Drop)]
+#[derive(Clone, Copy)]
 struct Calls {
     last: Portion,
     made: usize,

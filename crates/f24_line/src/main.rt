@@ -1,4 +1,6 @@
 // Shows one line of the flow in a file: the number of its record and the record itself, or the refusal.
+#![tactic(auto)]
+
 use args::Argument;
 use layout::Flow;
 

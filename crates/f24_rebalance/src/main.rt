@@ -1,5 +1,7 @@
 // Rebalances the flow in a file, and saves it there where a field changed. With --dry before the file nothing is saved. The fields that changed are printed, and
 // then the judgement of the rebalanced flow.
+#![tactic(auto)]
+
 use desk::{Access, Old};
 use layout::Flow;
 use mend::Mending;

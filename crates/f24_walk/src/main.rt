@@ -1,4 +1,6 @@
 // Walks the flow in the file that its argument names, and prints each record with its number.
+#![tactic(auto)]
+
 use layout::Flow;
 use walk::Answer;
 

@@ -1,6 +1,8 @@
 // Writes the flow of a working sheet to a new file, FLOW. The flow is written to a file beside it and brought to the disk. Then FLOW is made, empty, by
 // the call that fails where anything has that name; and the very next call has the written file take its place. So nothing that exists is ever replaced, and FLOW holds no
 // part of a flow at any time. The kit's C library has neither `link` nor a rename that replaces nothing, which would do it in one call.
+#![tactic(auto)]
+
 use layout::Flow;
 use libc::{EEXIST, EINVAL};
 use write::Writing;

@@ -1,4 +1,6 @@
 // One line of a flow, named by its delega's number, its subtype and its place in the section.
+#![tactic(auto)]
+
 ghost use Rattle.std.specs.Prelude.{◌≡◌, ◌<◌, ◌≤◌, length};
 ghost use Rattle.order.specs.Stages.{stage_at, at_start};
 ghost use Rattle.judge.specs.Flow.{records_of};
@@ -11,7 +13,7 @@ use layout::{Flow, Kind};
 use order::Stage;
 
 // The answer: the number of the line's record, counted from 1, or the refusal.
-#[derive(Drop)]
+#[derive(Clone, Copy)]
 pub enum Found {
     At(usize),
     Refused(u64, usize, usize),

@@ -1,4 +1,6 @@
 // What is handed back, as numbers in room that the caller keeps.
+#![tactic(auto)]
+
 ghost use Rattle.std.specs.Prelude.{◌≡◌, true, ◌<◌, ◌≤◌, length, get_or};
 ghost use Rattle.portion.specs.Portion.{at_most};
 ghost use Rattle.handed.specs.Room.{course_numbers, course_of, progress_numbers, progress_of};

@@ -1,4 +1,6 @@
 // The judgement of a flow: its first failed check, or acceptance with the counts and sums of its records.
+#![tactic(auto)]
+
 ghost use Rattle.std.specs.Prelude.{◌≡◌, ◌+◌, ◌/◌, ◌<◌, ◌≤◌, length};
 ghost use Rattle.layout.specs.Kinds.{type_in};
 ghost use Rattle.layout.specs.Fields.{fields_of};
@@ -18,14 +20,14 @@ use text::Digits;
 use words::Fifteen;
 
 // The answer: accepted, or refused with the number that documents 01 and 02 give, the record counted from 1, and the position.
-#[derive(Drop)]
+#[derive(Clone, Copy)]
 pub enum Verdict {
     Accepted,
     Refused(u64, usize, usize),
 }
 
 // What an accepted flow answers: the number of deleghe and of records, the sum of final balances, the number of lines, the sums of each of the five sections.
-#[derive(Drop)]
+#[derive(Clone, Copy)]
 pub struct Summary {
     pub deleghe: u64,
     pub records: usize,
@@ -35,7 +37,7 @@ pub struct Summary {
 }
 
 // The verdict beside the summary, which is all zeros with a refusal.
-#[derive(Drop)]
+#[derive(Clone, Copy)]
 pub struct Judgement {
     pub verdict: Verdict,
     pub summary: Summary,

@@ -1,5 +1,6 @@
 // The run cases of the judge: each stored flow is judged, and its name and the answer are printed.
 // A case is a line of 48 bytes, its name in 40 and its length in six digits, then that many bytes, then a line end.
+#![tactic(auto)]
 
 // One case; false where there is none left. The room takes flows that are too long by a record.
 fn one_case(fd: i32) -> bool {

@@ -1,4 +1,6 @@
 // The calls that take the record of ten sums kept beside a flow, and hand back the one that stands for the flow as it is then.
+#![tactic(auto)]
+
 ghost use Rattle.std.specs.Prelude.{◌≡◌};
 ghost use Rattle.kept.specs.Keeping.{keeping, correction_kept, corrected_with, mending_kept, mended_with, listed_with, dropping_kept, dropped_with};
 ghost use Rattle.judge.specs.Refusal.{refusal_of};
@@ -15,28 +17,28 @@ use mend::Mending;
 use sums::KeptSums;
 
 // The verdict on a flow, and the record that is made of it: zeros with a refusal.
-#[derive(Drop)]
+#[derive(Clone, Copy)]
 pub struct Keeping {
     pub verdict: Verdict,
     pub kept: KeptSums,
 }
 
 // The answer to a correction, and the record that is handed back.
-#[derive(Drop)]
+#[derive(Clone, Copy)]
 pub struct CorrectionKept {
     pub answer: Correction,
     pub kept: KeptSums,
 }
 
 // The same of a rebalancing.
-#[derive(Drop)]
+#[derive(Clone, Copy)]
 pub struct MendingKept {
     pub answer: Mending,
     pub kept: KeptSums,
 }
 
 // The same of a dropping.
-#[derive(Drop)]
+#[derive(Clone, Copy)]
 pub struct DroppingKept {
     pub answer: Dropping,
     pub kept: KeptSums,
@@ -55,7 +57,7 @@ pub fn keep(flow: &[u8]) -> Keeping
 }
 
 // The refusal of a call whose record is not the flow's.
-#[derive(Drop)]
+#[derive(Clone, Copy)]
 struct Mismatch {
     number: u64,
     at: usize,

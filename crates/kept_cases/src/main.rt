@@ -7,6 +7,8 @@
 // `rebalance`, and the first is the length of the list; or `drop`, and the first is how many numbers are stored. The length is that of the flow as the step before it left
 // it. Below it stand as many expected bytes, a line end, eleven numbers, a line end, the numbers of a dropping, and a line end; each number is in 20 digits with a space
 // behind it. Where the first of the eleven is 0 the step is lent the record that was handed back last, else the ten behind it.
+#![tactic(auto)]
+
 ghost use Rattle.std.specs.Prelude.{◌≡◌, ◌+◌, ◌≤◌, length};
 
 use amounts::Sums;
@@ -38,7 +40,7 @@ const MOST_REST: usize = MOST_FLOW + 234 + 21 * MOST_NUMBERS;
 
 // What a step leaves: whether it was read, whether its call is no refusal, the length of the flow and the record. A step that could not be read leaves nothing to go on
 // from.
-#[derive(Drop)]
+#[derive(Clone, Copy)]
 struct Left {
     read: bool,
     done: bool,

@@ -1,5 +1,7 @@
 // The kinds of records of a flow, the five sections, and the columns of the numeric fields.
 // A column is written as document 01 and CBI-F24-001 count it, from 1, less 1: `29 - 1` is the index of position 29.
+#![tactic(auto)]
+
 mod columns;
 mod forms;
 mod kinds;
@@ -15,7 +17,7 @@ pub use forms::{form_in, is_numbered, type_by};
 pub use kinds::{balance_of, section_kind};
 
 // What the product writes and reads of an amount, in cents.
-#[derive(Drop)]
+#[derive(Clone, Copy)]
 pub struct Amount {
     pub cents: u64,
 }
@@ -27,7 +29,7 @@ impl Amount {
 }
 
 // The size of a flow.
-#[derive(Drop)]
+#[derive(Clone, Copy)]
 pub struct Flow {
     pub records: usize,
 }
@@ -41,7 +43,7 @@ impl Flow {
 }
 
 // Where the fields of the records start, as document 01 and CBI-F24-001 count positions. The lines and balances have theirs in the table of sections.
-#[derive(Drop)]
+#[derive(Clone, Copy)]
 pub struct Position {
     pub from: usize,
 }
@@ -69,7 +71,7 @@ impl Position {
 }
 
 // The indexes of what is taken of a record without being read as a number: where each begins, and of the tax code and the support name the index behind the end.
-#[derive(Drop)]
+#[derive(Clone, Copy)]
 pub struct Part {
     pub from: usize,
 }
@@ -89,7 +91,7 @@ impl Part {
 }
 
 // One section: the subtypes of its lines and of its balance record, where their fields start, and what its lines may be.
-#[derive(Drop)]
+#[derive(Clone, Copy)]
 pub struct Section {
     pub line_subtype: u64,
     pub balance_subtype: u64,
@@ -209,7 +211,7 @@ pub fn section_at(s: usize) -> Section
 }
 
 // The type of a record, positions 2-3.
-#[derive(Drop)]
+#[derive(Clone, Copy)]
 pub enum RecordType {
     F4,
     T10,
@@ -222,7 +224,7 @@ pub enum RecordType {
 
 // What a record is: the head F4, the taxpayer's 10, the domicile's 20, a line or the balance of a section (40), the payment 50-01,
 // its receipt 50-02, the receipt's addressee 50-03, the tail EF.
-#[derive(Drop)]
+#[derive(Clone, Copy)]
 pub enum Kind {
     Head,
     Taxpayer,
@@ -237,7 +239,7 @@ pub enum Kind {
 }
 
 // What a subtype of a record 40 stands for: a line, with its section and the subtype of the balance that closes it; the balance of a section; or that a number is no subtype.
-#[derive(Drop)]
+#[derive(Clone, Copy)]
 pub enum Subtype {
     OfLine(usize, u64),
     OfBalance(usize),
@@ -245,14 +247,14 @@ pub enum Subtype {
 }
 
 // A field of a record: rec[start..end].
-#[derive(Drop)]
+#[derive(Clone, Copy)]
 pub struct Field {
     pub start: usize,
     pub end: usize,
 }
 
 // The numeric fields of a record, at most four.
-#[derive(Drop)]
+#[derive(Clone, Copy)]
 pub struct Fields {
     pub count: usize,
     pub fields: [Field; 4],
@@ -260,7 +262,7 @@ pub struct Fields {
 
 // How a record is read: its kind, how many numeric fields it has behind its first one, and where the first of these starts. In a record of a delega
 // they are amounts: the second follows the first at once, and the third after a sign.
-#[derive(Drop)]
+#[derive(Clone, Copy)]
 pub struct Form {
     pub kind: Kind,
     pub amounts: usize,

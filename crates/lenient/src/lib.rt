@@ -1,4 +1,6 @@
 // The lenient judgement: the first fault of a flow, with every total, sign, balance and tail value taken as right.
+#![tactic(auto)]
+
 ghost use Rattle.std.specs.Prelude.{◌≡◌, ◌<◌, length, get_or};
 ghost use Rattle.layout.specs.Fields.{nowhere, support_name, fields_of, bytes_of, value_of};
 ghost use Rattle.rules.specs.State.{start_state};
@@ -16,7 +18,7 @@ use rules::State;
 use text::Digits;
 
 // The answer: no fault among the checks that stay, or the refusal.
-#[derive(Drop)]
+#[derive(Clone, Copy)]
 pub enum Lenient {
     Passed,
     Refused(u64, usize, usize),

@@ -1,4 +1,6 @@
 // A flow whose lines are good and whose totals aren't is rebalanced, and the fields that change are listed.
+#![tactic(auto)]
+
 ghost use Rattle.std.specs.Prelude.{◌≡◌, length};
 ghost use Rattle.judge.specs.Plain.{Whole};
 ghost use Rattle.rebalance.specs.Rebalance.{refreshed};
@@ -10,7 +12,7 @@ use layout::Flow;
 use lenient::Lenient;
 
 // The answer: rebalanced, with the number of fields that changed; or the refusal.
-#[derive(Drop)]
+#[derive(Clone, Copy)]
 pub enum Mending {
     Mended(usize),
     Refused(u64, usize, usize),

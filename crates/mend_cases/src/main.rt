@@ -2,6 +2,8 @@
 // is as it came, whether the bytes are then the expected ones and, where the flow is rebalanced, its judgement are printed.
 // A case is a line of 153 bytes: its name in 40, then, each after a space, five numbers in 20 digits and a length in six. The first number is the length of the list, and
 // the length is that of the flow. Below it stand the flow, a line end, as many expected bytes, and a line end.
+#![tactic(auto)]
+
 use layout::Flow;
 use libc::STDOUT_FILENO;
 use mend::Mending;

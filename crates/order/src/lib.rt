@@ -1,4 +1,6 @@
 // What may stand where, and how many lines a section has: checks 4 and 6, and the stage after a record.
+#![tactic(auto)]
+
 ghost use Rattle.std.specs.Prelude.{◌≡◌, ◌<◌, [], ◌∷◌};
 ghost use Rattle.order.specs.Stages.{stage_at};
 ghost use Rattle.text.specs.Among.{among};
@@ -8,7 +10,7 @@ use amounts::Outcome;
 use layout::{Kind, Position, RecordType};
 
 // The stage in the order of records: what the last record was, and for a line or a balance of which section; the open section's lines.
-#[derive(Drop)]
+#[derive(Clone, Copy)]
 pub struct Stage {
     pub phase: u8,
     pub section: usize,

@@ -1,4 +1,6 @@
 // The judgement by portions: a call examines no more records than it is allowed, and hands back what the next one goes on from.
+#![tactic(auto)]
+
 mod bounds;
 
 ghost use Rattle.std.specs.Prelude.{◌≡◌, true, ◌-◌, ◌≤◌, length, get_or};
@@ -15,7 +17,7 @@ use layout::{Flow, Part};
 
 // How a judgement stands: it goes on, or has ended with acceptance or with a refusal. As an answer also that the state is none that a judgement of this flow
 // can have handed back.
-#[derive(Drop)]
+#[derive(Clone, Copy)]
 pub enum Course {
     Going,
     Accepted,
@@ -24,7 +26,7 @@ pub enum Course {
 }
 
 // What is handed back: how the judgement stands, the numbers of its state, and the support name in the head.
-#[derive(Drop)]
+#[derive(Clone, Copy)]
 pub struct Progress {
     pub course: Course,
     pub kept: [u64; 29],
@@ -33,7 +35,7 @@ pub struct Progress {
 
 // What a call answers: how the judgement stands, how many records have been examined so far, the summary, which is all zeros unless the flow is accepted, and
 // what the next call goes on from.
-#[derive(Drop)]
+#[derive(Clone, Copy)]
 pub struct Portion {
     pub answer: Course,
     pub examined: usize,

@@ -2,6 +2,8 @@
 // each call answers and the state after them are printed.
 // A case is a line of 153 bytes: its name in 40, then, each after a space, five portions in 20 digits and a length in six. Below it stand that many bytes of the flow, a
 // line end, the 53 numbers of the state in 20 digits each with a space between, and a line end.
+#![tactic(auto)]
+
 use desk::Numbers;
 use libc::STDOUT_FILENO;
 

@@ -7,7 +7,7 @@ use lib.ListN.{length, take, drop, set, length-append, take-append-drop}
 use lib.Seq.{length-take-le, take_at, set_split}
 use Rattle.text.specs.Numbers.{digits_of}
 use Rattle.text.specs.Placing.{put_at, number_bytes}
-use Rattle.text.proofs.Fits.{number_fits, number-written}
+use Rattle.text.proofs.Fits.{number_fits_lem, number-written}
 use Rattle.text.proofs.Numerals.{length_digits}
 use Rattle.text.proofs.Puts.{length-put, put-after, put_is}
 use Rattle.printing.specs.Decimal.{width_of, decimal}
@@ -50,7 +50,7 @@ append-byte {s} {b} {r} h =
 pub append-number : {s w n : ℕ} {r r' : List ℕ} → r' ≡ number_bytes s w n r → n < 10 ^ w → s + w ≤ length r → (m : ℕ) → w ≤ m → Appended s (digits_of w n) m r r' (s + w)
 append-number {s} {w} {n} {r} b h f m l =
     let d : length (digits_of w n) ≡ w = length_digits w n in
-    append-put (b ∙ (number-written s w n r (number_fits s w n (length r) f h)).1) (omega arith) (omega arith) (omega arith)
+    append-put (b ∙ (number-written s w n r (number_fits_lem s w n (length r) f h)).1) (omega arith) (omega arith) (omega arith)
 
 -- A number of 64 bits that was put in as many digits as it has is a step of printing.
 pub append-decimal : {s w n : ℕ} {r r' : List ℕ} → r' ≡ number_bytes s w n r → w ≡ width_of n → n < 2 ^ 64 → s + 20 ≤ length r → Appended s (decimal n) 20 r r' (s + w)

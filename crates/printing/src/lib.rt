@@ -1,5 +1,7 @@
 // What every text that a program prints is made of: words, numbers in decimal digits and single bytes, each put into a room that
 // the caller lends, behind what is printed there already.
+#![tactic(auto)]
+
 ghost use Rattle.std.specs.Prelude.{[], ◌∷◌, ◌≡◌, ◌+◌, ◌≤◌, ◌<◌, length};
 ghost use Rattle.printing.specs.Decimal.{width_of, decimal};
 ghost use Rattle.printing.specs.Appended.{Appended};

@@ -2,6 +2,8 @@
 // A case is a line of 153 bytes: its name in 40, then, each after a space, five numbers in 20 digits and a length in six; then that many
 // bytes of the flow, and a line end. The first number says which call it is: 1 a delega by its number, 2 a line by delega, subtype and place, 3 a step of a
 // walk from a place.
+#![tactic(auto)]
+
 use desk::Numbers;
 use libc::STDOUT_FILENO;
 use walk::{Answer, WalkPlace};

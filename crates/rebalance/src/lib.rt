@@ -1,4 +1,6 @@
 // Rebalancing: every stored field is written anew from the lines.
+#![tactic(auto)]
+
 mod numbering;
 
 ghost use Rattle.std.specs.Prelude.{◌≡◌, true, ◌-◌, ◌^◌, ◌<◌, length};
@@ -23,7 +25,7 @@ use rules::State;
 const MOST_COUNT: u64 = 9_999_999;
 
 // What the lines of a flow come to: whether some delega is negative, and whether all that is stored has room in its field.
-#[derive(Drop)]
+#[derive(Clone, Copy)]
 pub struct Surveyed {
     pub negative: bool,
     pub fits: bool,

@@ -1,4 +1,6 @@
 // The records of a flow: where each lies, up to which all bytes are characters, what a record is, and what its fields say.
+#![tactic(auto)]
+
 mod lines;
 
 ghost use Rattle.std.specs.Prelude.{◌≡◌, ◌+◌, ◌/◌, ◌<◌, ◌≤◌, eqb, length, take, drop};
@@ -105,7 +107,7 @@ pub fn clean_records(flow: &[u8], seen: usize) -> usize
 }
 
 // What the numeric fields of a record say, or the position of the first character in them that is no digit; that position is 0 where all are.
-#[derive(Drop)]
+#[derive(Clone, Copy)]
 pub struct Values {
     pub bad: usize,
     pub values: [u64; 4],

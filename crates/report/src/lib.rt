@@ -1,5 +1,7 @@
 // What the programs print, written into a room that the caller lends. Every text is at most 512 bytes long, and a room that is
 // shorter than that is left as it came.
+#![tactic(auto)]
+
 ghost use Rattle.std.specs.Prelude.{[], ◌∷◌, ◌≡◌, ◌+◌, ◌≤◌, ◌<◌, length};
 ghost use Rattle.text.specs.Numbers.{digits_of};
 ghost use Rattle.layout.specs.Sections.{section_at};

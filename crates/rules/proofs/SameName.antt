@@ -13,7 +13,7 @@ use Rattle.words.specs.Words.{word, AtMost}
 use Rattle.words.proofs.Fields.{at-most-part, word-inj}
 use Rattle.layout.specs.Fields.{support_name, bytes_of}
 use Rattle.amounts.specs.Names.{same_bytes}
-use Rattle.amounts.proofs.Spelling.{same_bytes, same-itself}
+use Rattle.amounts.proofs.Spelling.{same_bytes_lem, same-itself}
 
 module _ (r name : List ℕ) (l : length r ≡ 120) (n : length name ≡ 20) where
   -- the name in the record, byte by byte
@@ -33,7 +33,7 @@ module _ (r name : List ℕ) (l : length r ≡ 120) (n : length name ≡ 20) whe
           ∙ (get_or-drop (19 + i) r j 0
           ∙ (ap (λ (m : ℕ). get_or r m 0) (let q : 19 + i + j ≡ 19 + (i + j) = omega arith in q)
           ∙ (sym (named (i + j) (omega arith))
-          ∙ (ap (λ (x : List ℕ). get_or x (i + j) 0) (same_bytes _ _ e)
+          ∙ (ap (λ (x : List ℕ). get_or x (i + j) 0) (same_bytes_lem _ _ e)
           ∙ sym (get_or-take 8 (drop i name) j 0 k ∙ get_or-drop i name j 0)))))
 
   module _ (fr : AtMost 255 r) (fn : AtMost 255 name) where

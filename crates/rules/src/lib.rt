@@ -1,4 +1,6 @@
 // The checks of one record, and the state that the records before it have led to.
+#![tactic(auto)]
+
 mod step;
 mod values;
 
@@ -11,7 +13,7 @@ pub use step::{next_deleghe, next_state};
 pub use values::{code_fault, has_code, head_record, number_fault, section_sums, values_fault};
 
 // The sums of the open delega: of each section, and of all its lines.
-#[derive(Drop)]
+#[derive(Clone, Copy)]
 pub struct DelegaSums {
     pub sections: [Sums; 5],
     pub all: Sums,
@@ -36,7 +38,7 @@ impl DelegaSums {
 }
 
 // What the lines have come to: the open delega's sums, the flow's sums of each section, the sum of final balances.
-#[derive(Drop)]
+#[derive(Clone, Copy)]
 pub struct Money {
     pub delega: DelegaSums,
     pub flow: [Sums; 5],
@@ -44,7 +46,7 @@ pub struct Money {
 }
 
 // What the records so far have established: among it how many deleghe there have been, how many records, and how many of these are no lines.
-#[derive(Drop)]
+#[derive(Clone, Copy)]
 pub struct State {
     pub stage: Stage,
     pub deleghe: u64,

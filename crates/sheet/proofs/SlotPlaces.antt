@@ -13,7 +13,7 @@ use Rattle.amounts.specs.declared.Outcome.TheVariants.{Pass, Fault}
 use Rattle.amounts.specs.Names.{same_bytes}
 use Rattle.sheet.specs.Slots.{type_text, subtype_text, slot_fault}
 use Rattle.sheet.specs.Contents.{Slot, head, taxpayer, domicile, line, balance, payment, tail, slot_type, SlotSays, OfItsKind, OtherType, OtherSubtype}
-use Rattle.amounts.proofs.Spelling.{same_bytes, same-itself}
+use Rattle.amounts.proofs.Spelling.{same_bytes_lem, same-itself}
 use Rattle.sheet.proofs.SlotPassed.{type-of}
 use Rattle.sheet.proofs.SlotExactly.{Chars, type-chars, two, slot-exactly}
 
@@ -49,7 +49,7 @@ module _ (r : List ℕ) (l : length r ≡ 120) {k : Kind} (s : Slot k) where
 
   -- The record has the slot's type exactly where the first test says so.
   type-told : (typed ≡ true) ↔ (type_in r ≡ slot_type s)
-  type-told = (λ e. slot-typed s r (same_bytes _ _ e), λ e. ap (λ (b : List ℕ). same_bytes b (type_text k)) (typed-slot s r l (go (type_in r) e (type-chars (get_or r 1 0) (get_or r 2 0)))) ∙ same-itself (type_text k))
+  type-told = (λ e. slot-typed s r (same_bytes_lem _ _ e), λ e. ap (λ (b : List ℕ). same_bytes b (type_text k)) (typed-slot s r l (go (type_in r) e (type-chars (get_or r 1 0) (get_or r 2 0)))) ∙ same-itself (type_text k))
     where
       go : (t : RecordType) → t ≡ slot_type s → Chars t (get_or r 1 0) (get_or r 2 0) → Chars (slot_type s) (get_or r 1 0) (get_or r 2 0)
       go t e c = rw e at c

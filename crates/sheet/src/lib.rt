@@ -1,4 +1,6 @@
 // A working sheet read into a flow: its records in their slots, with what is filled, and the balance records that are made.
+#![tactic(auto)]
+
 mod filled;
 mod slots;
 
@@ -13,14 +15,14 @@ use layout::{Flow, Kind, Part};
 use text::Digits;
 
 // The first record that is not of its slot's kind, counted from 1, and the position that is told; 0 where there is none.
-#[derive(Drop)]
+#[derive(Clone, Copy)]
 pub struct Misfit {
     pub at: usize,
     pub position: usize,
 }
 
 // A spot in a sheet: how many bytes have been read, how many records that makes in the flow, and the first of them that is not of its slot's kind.
-#[derive(Drop)]
+#[derive(Clone, Copy)]
 pub struct Spot {
     pub at: usize,
     pub count: usize,
@@ -28,7 +30,7 @@ pub struct Spot {
 }
 
 // The end of a walk over a part of a sheet: a spot behind it, or that the bytes are no sheet.
-#[derive(Drop)]
+#[derive(Clone, Copy)]
 pub enum Walked {
     NoSheet,
     To(Spot),

@@ -1,4 +1,6 @@
 // The state of a judgement as numbers in room that is lent, so that a judgement may go on from them later.
+#![tactic(auto)]
+
 ghost use Rattle.std.specs.Prelude.{◌≡◌, ◌+◌, ◌<◌, ◌≤◌, length, get_or};
 ghost use Rattle.state.specs.Numbers.{overlay, state_numbers, sums_at, state_of, state_in, Kept, kept_after};
 

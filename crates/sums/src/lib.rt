@@ -1,4 +1,6 @@
 // The ten section sums of a flow's lines, kept in a record beside it.
+#![tactic(auto)]
+
 ghost use Rattle.std.specs.Prelude.{◌≡◌, ◌≤◌, length};
 ghost use Rattle.sums.specs.LineSums.{kept_of, same_sums};
 ghost use Rattle.sums.specs.Inner.{matched};
@@ -7,7 +9,7 @@ use amounts::Sums;
 use layout::Flow;
 
 // The record: the debits and the credits of each of the five sections.
-#[derive(Drop)]
+#[derive(Clone, Copy)]
 pub struct KeptSums {
     pub sums: [Sums; 5],
 }

@@ -1,4 +1,6 @@
 // Tax codes that can exist: sixteen characters by the decree of 23 December 1976, or a VAT number of eleven digits and five spaces.
+#![tactic(auto)]
+
 mod firms;
 mod persons;
 mod places;
@@ -10,7 +12,7 @@ use firms::firm_right;
 use persons::person_right;
 
 // How many characters a code has, spaces included, the index of a person's last letter, and how many digits a firm's has.
-#[derive(Drop)]
+#[derive(Clone, Copy)]
 pub struct Code {
     pub places: usize,
 }

@@ -40,9 +40,9 @@ module _ (s w n l : ℕ) where
   number-unfit e = rw e
 
   -- A number of at most w digits whose part ends within the room fits.
-  pub number_fits : s + w ≤ l → n < 10 ^ w → number_fits s w n l ≡ true
+  pub number_fits_lem : s + w ≤ l → n < 10 ^ w → number_fits s w n l ≡ true
   unfolding number_fits
-  number_fits h k = rw (part-fits s w l h, lt-ltb n (10 ^ w) k)
+  number_fits_lem h k = rw (part-fits s w l h, lt-ltb n (10 ^ w) k)
 
   -- A number that fits has at most w digits, and its part ends within the room.
   pub number-ends : number_fits s w n l ≡ true → (s + w ≤ l) × (n < 10 ^ w)
@@ -81,7 +81,7 @@ part-put s bs r l h e = e ∙ (part-written s bs r (part-fits s (length bs) (len
 
 -- A number of at most w digits that lies within the room is put there.
 pub number_put : (s w n : ℕ) (r l : List ℕ) → s + w ≤ length r → n < 10 ^ w → l ≡ number_bytes s w n r → l ≡ put_at s (digits_of w n) r
-number_put s w n r l h k e = e ∙ (number-written s w n r (number_fits s w n (length r) h k)).1
+number_put s w n r l h k e = e ∙ (number-written s w n r (number_fits_lem s w n (length r) h k)).1
 
 -- Bytes copied into room for as many are those bytes.
 pub copied : (n : ℕ) (bs l : List ℕ) → length bs ≡ n → l ≡ part_bytes 0 bs (replicate n 0) → l ≡ bs

@@ -1,25 +1,27 @@
 // The text of a CBI F24 flow: which bytes are characters, what the digits of a field say, and how a part or a number is put into a
 // record. A record has 120 characters, and an amount has fifteen digits.
+#![tactic(auto)]
+
 ghost use Rattle.std.specs.Prelude.{◌≡◌, ◌+◌, ◌*◌, ◌^◌, ◌≤◌, min, max, ltb, length, take};
 ghost use Rattle.text.specs.Characters.{first_bad, all_allowed};
 ghost use Rattle.text.specs.Numbers.{read_number, digits_of};
 ghost use Rattle.text.specs.Placing.{put_at, part_fits, number_fits, part_answer, part_bytes, number_answer, number_bytes};
 ghost use Rattle.text.specs.Same.{same_bytes};
 
-#[derive(Drop)]
+#[derive(Clone, Copy)]
 pub enum Characters {
     Allowed,
     BadAt(usize),
 }
 
-#[derive(Drop)]
+#[derive(Clone, Copy)]
 pub enum Digits {
     Number(u64),
     NonDigit(usize),
     TooLong,
 }
 
-#[derive(Drop)]
+#[derive(Clone, Copy)]
 pub enum Put {
     Written,
     Unfit,

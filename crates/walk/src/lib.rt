@@ -1,4 +1,6 @@
 // The walk over a flow, record by record, forward only.
+#![tactic(auto)]
+
 ghost use Rattle.std.specs.Prelude.{◌≡◌};
 ghost use Rattle.walk.specs.Walk.{place_next, answer_at, place_after, step_at, HandedBack, walker_at, SteppedOn};
 
@@ -6,7 +8,7 @@ use judge::Verdict;
 use layout::Flow;
 
 // Where a walk stands: the number of records shown.
-#[derive(Drop)]
+#[derive(Clone, Copy)]
 pub struct WalkPlace {
     pub shown: usize,
 }
@@ -25,7 +27,7 @@ impl WalkPlace {
 }
 
 // The answer of a step: the number of the record shown, no more records, or the refusal of the flow.
-#[derive(Drop)]
+#[derive(Clone, Copy)]
 pub enum Answer {
     Shown(usize),
     NoMore,
@@ -33,21 +35,21 @@ pub enum Answer {
 }
 
 // A step: its answer, and the place after it.
-#[derive(Drop)]
+#[derive(Clone, Copy)]
 pub struct Step {
     pub answer: Answer,
     pub next: WalkPlace,
 }
 
 // A walk: the flow that is lent to it, and its present place.
-#[derive(Drop)]
+#[derive(Clone, Copy)]
 pub struct Walker<'a> {
     pub flow: &'a [u8],
     pub place: WalkPlace,
 }
 
 // What a step of a walk hands back: the record as a part of the flow, the answer, and the walk moved on.
-#[derive(Drop)]
+#[derive(Clone, Copy)]
 pub struct Stepped<'a> {
     pub part: &'a [u8],
     pub answer: Answer,

@@ -1,5 +1,7 @@
 // Several bytes at once: two, four or eight of them as one number, the first one lowest, and the digits of an amount read eight at a time.
 // The bytes are added up as numbers; the compiler makes one load of it.
+#![tactic(auto)]
+
 ghost use Rattle.std.specs.Prelude.{◌≡◌, ◌+◌, ◌*◌, ◌<◌, ◌≤◌, length, take, drop, get_or};
 ghost use Rattle.text.specs.declared.Characters.TheVariants.{Allowed};
 ghost use Rattle.text.specs.Characters.{first_bad};
@@ -7,7 +9,7 @@ ghost use Rattle.text.specs.Numbers.{number_of, digits_of};
 ghost use Rattle.words.specs.Words.{word, fifteen_of, Spelt, Halves};
 
 // What the characters of an amount, or eight of its fifteen, say: a number, or nothing where one of them is no digit.
-#[derive(Drop)]
+#[derive(Clone, Copy)]
 pub enum Fifteen {
     Amount(u64),
     NonDigit,

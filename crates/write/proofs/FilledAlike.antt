@@ -28,7 +28,7 @@ use Rattle.rebalance.specs.Numbering.{with_number}
 use Rattle.sheet.specs.Filled.{is_tail, with_name, filled}
 use Rattle.sheet.specs.Contents as In
 use Rattle.sheet.specs.Contents.{Slot}
-use Rattle.amounts.proofs.Spelling.{same_bytes}
+use Rattle.amounts.proofs.Spelling.{same_bytes_lem}
 use Rattle.sheet.proofs.FilledRecords.{slot-laid}
 use Rattle.rebalance.specs.Places.{balance_columns}
 use Rattle.write.specs.Effect.{filled_columns}
@@ -85,4 +85,4 @@ name-held {k} s name st r = go s
     go (In.line x h) p e = absurd (false≢true e)
     go (In.balance x h) p e = absurd (false≢true e)
     go In.payment p e = absurd (false≢true e)
-    go In.tail p e = same_bytes _ name (cond-true (same_bytes (bytes_of r support_name) name) 16 20 p)
+    go In.tail p e = same_bytes_lem _ name (cond-true (same_bytes (bytes_of r support_name) name) 16 20 p)

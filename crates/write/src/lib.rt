@@ -1,4 +1,6 @@
 // A flow written from a working sheet: what is written is accepted, and carries the sheet's records.
+#![tactic(auto)]
+
 ghost use Rattle.std.specs.Prelude.{◌≡◌, ◌≤◌, length};
 ghost use Rattle.rules.specs.State.{start_state};
 ghost use Rattle.judge.specs.Flow.{records_of};
@@ -12,7 +14,7 @@ use lenient::Lenient;
 use sheet::{Misfit, Walked};
 
 // The answer: written, with the length of the flow; or the refusal.
-#[derive(Drop)]
+#[derive(Clone, Copy)]
 pub enum Writing {
     Written(usize),
     Refused(u64, usize, usize),

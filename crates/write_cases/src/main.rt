@@ -2,6 +2,8 @@
 // a flow is written, its judgement are printed.
 // A case is a line of 153 bytes: its name in 40, then, each after a space, five numbers in 20 digits and a length in six. The first number is the length of the
 // room, and the length is that of the sheet. Below it stand the sheet, a line end, the bytes expected in the room, and a line end.
+#![tactic(auto)]
+
 use libc::STDOUT_FILENO;
 use write::Writing;
 

@@ -2,7 +2,7 @@
 use mathlib.Core.Path.{◌∙◌}
 use native.Mathlib.Omega.{arith}
 use borrow.Author.Rules.{rules}
-use Rattle.text.proofs.Fits.{number_fits, number-written}
+use Rattle.text.proofs.Fits.{number_fits_lem, number-written}
 use Rattle.rebalance.proofs.store.Statement.{statement}
 use Rattle.rebalance.proofs.store.Tie as tie
 
@@ -19,7 +19,7 @@ returns : tie.Need-returns
 returns c =
     let p = c.before.before.before.before.before.requires in
     let w = p.1 in
-    c.before.before.put-number.ensures.1 ∙ (number-written _ _ _ _ (number_fits _ _ _ _ (omega (arith, p.0, w.forward, w.inside)) p.2)).1
+    c.before.before.put-number.ensures.1 ∙ (number-written _ _ _ _ (number_fits_lem _ _ _ _ (omega (arith, p.0, w.forward, w.inside)) p.2)).1
 
 pub store_spec : {M : Type 1} → statement M
 store_spec = tie.close (tie.spec sub-put-number put-number-requires same_length returns)

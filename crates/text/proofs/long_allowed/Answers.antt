@@ -1,0 +1,18 @@
+-- `text::long_allowed` meets its contract: the four quarters are a front of the part, and the rest is behind them.
+use Prim.Native.Nat.{◌*◌, ◌/◌}
+use mathlib.Core.Path.{sym, ◌∙◌}
+use native.Mathlib.Omega.{arith}
+use lib.ListN.{length}
+use Rattle.text.proofs.Allowed.{all_rest}
+use borrow.Author.Rules.{rules}
+use Rattle.text.proofs.long_allowed.Goals as goal
+
+pub returns-then-quarters_allowed : goal.returns-then-quarters_allowed
+returns-then-quarters_allowed c =
+    let l = c.args.part.now in
+    c.all_allowed.ensures ∙ sym (all_rest l (length l / 64 * 16 * 4) (omega arith) ∙ rw (sym c.quarters_allowed.ensures ∙ c.if-quarters_allowed.true))
+
+pub returns : goal.returns
+returns c =
+    let l = c.args.part.now in
+    sym (all_rest l (length l / 64 * 16 * 4) (omega arith) ∙ rw (sym c.quarters_allowed.ensures ∙ c.if-quarters_allowed.false))
