@@ -1,0 +1,31 @@
+use Prim.Native.Nat.{◌-◌, ◌≤◌}
+use mathlib.Core.Path.{◌≡◌, refl}
+use mathlib.Core.Bool.{true}
+use native.Mathlib.Omega.{arith}
+use borrow.Author.Rules.{rules}
+use Rattle.ep_accounts.specs.Accounts.{row_count, digits_to, debits_to}
+use Rattle.ep_accounts.proofs.Rows.{debits-spoilt, sum_fits, digits_more, debits-more, debits-all}
+use Rattle.ep_accounts.proofs.debits_in.Goals as goal
+
+pub loop-k-init : goal.loop-k-init
+unfolding digits_to debits_to
+loop-k-init c = (omega arith, refl, refl)
+
+pub debit_of-said-requires : goal.debit_of-said-requires
+debit_of-said-requires c = (c.requires, c.loop-k-test.true)
+
+pub returns-in_default : goal.returns-in_default
+returns-in_default c = debits-spoilt _ _ _ c.debit_of-said.ensures c.loop-k-test.true c.in_default.in_default-own.keys2
+
+pub overflow_add-sum : goal.overflow_add-sum
+overflow_add-sum c = omega (arith, sum_fits _ _ _ c.debit_of-said.ensures _ c.in-Number.is _ c.loop-k.invariant.2 c.requires c.loop-k-test.true)
+
+pub loop-k-preserved : goal.loop-k-preserved
+loop-k-preserved c =
+    let e = c.debit_of-said.ensures in
+    let v = c.in-Number.is in
+    let l = c.loop-k in
+    (omega arith, digits_more _ _ _ e _ v l.invariant.1, debits-more _ _ _ e _ v _ l.invariant.2)
+
+pub returns : goal.returns
+returns c = debits-all _ c.loop-k.k _ (omega arith) c.loop-k.invariant.1 c.loop-k.invariant.2

@@ -1,0 +1,14 @@
+use mathlib.Core.Path.{◌∙◌, sym, ap}
+use Rattle.layout.specs.Decision.{balance_by}
+use Rattle.layout.proofs.Decision.{decision-is-table}
+use borrow.Author.Rules.{rules}
+use Rattle.layout.proofs.kinds.balance_of.Goals as goal
+
+pub returns-in-OfLine : goal.returns-in-OfLine
+returns-in-OfLine c = ap balance_by (sym c.in-OfLine.is ∙ c.decide.ensures) ∙ (decision-is-table _).1
+
+pub returns-in-OfBalance : goal.returns-in-OfBalance
+returns-in-OfBalance c = ap balance_by (sym c.in-OfBalance.is ∙ c.decide.ensures) ∙ (decision-is-table _).1
+
+pub returns-in-NoSubtype : goal.returns-in-NoSubtype
+returns-in-NoSubtype c = ap balance_by (sym c.in-NoSubtype.is ∙ c.decide.ensures) ∙ (decision-is-table _).1

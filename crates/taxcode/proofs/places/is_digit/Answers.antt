@@ -1,0 +1,5 @@
+use borrow.Author.Rules.{rules}
+use Rattle.taxcode.proofs.places.is_digit.Goals as goal
+
+pub returns : goal.returns
+returns c = c.is_from.ensures
