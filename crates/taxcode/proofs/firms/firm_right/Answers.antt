@@ -17,6 +17,9 @@ use Rattle.taxcode.proofs.FirmTurns.{firm-length, firm-stop, firm-on, firm-end}
 use Rattle.taxcode.proofs.firms.firm_right.Goals as goal
 use Rattle.taxcode.proofs.firms.firm_right.Goals.{After-shared_slice_known-in-loop-i-1, After-spaces_only, Else-not-is_digit}
 
+pub overflow_add-i : goal.overflow_add-i
+overflow_add-i c = omega arith
+
 -- A character is read.
 abbrev AtByte : Type 0
 AtByte = After-shared_slice_known-in-loop-i-1
@@ -41,7 +44,7 @@ abbrev AtDigit : Type 0
 AtDigit = Else-not-is_digit
 
 is_one : (c : AtDigit) → digit (byte (goal.at.overflow_add-i c).After-shared_slice_known-in-loop-i-1) ≡ true
-is_one c = sym c.is_digit.ensures ∙ not-false c.is_digit.result c.if-not-is_digit.false
+is_one c = sym c.is_digit.ensures ∙ c.if-not-is_digit.false
 
 pub returns-then-code-ne-PLACES : goal.returns-then-code-ne-PLACES
 returns-then-code-ne-PLACES c = sym (firm-length _ c.if-code-ne-PLACES.true)
@@ -50,7 +53,7 @@ pub loop-i-init : goal.loop-i-init
 loop-i-init c = (c.if-code-ne-PLACES.false, omega arith, counted_none digit_or_space count_at _)
 
 pub returns-then-not-is_digit : goal.returns-then-not-is_digit
-returns-then-not-is_digit c = let b = (goal.at.returns-then-not-is_digit c).After-shared_slice_known-in-loop-i-1 in sym (firm-stop (code b) b.loop-i.invariant.0 _ _ (counted b) (in-digits b) (sym c.is_digit.ensures ∙ not-true c.is_digit.result c.if-not-is_digit.true))
+returns-then-not-is_digit c = let b = (goal.at.returns-then-not-is_digit c).After-shared_slice_known-in-loop-i-1 in sym (firm-stop (code b) b.loop-i.invariant.0 _ _ (counted b) (in-digits b) (sym c.is_digit.ensures ∙ c.if-not-is_digit.true))
 
 pub overflow_add-sum : goal.overflow_add-sum
 overflow_add-sum c =

@@ -14,6 +14,9 @@ use borrow.Author.Rules.{rules}
 use Rattle.taxcode.proofs.persons.person_right.Goals as goal
 use Rattle.taxcode.proofs.persons.person_right.Goals.{After-by_place-sum, After-shared_slice_known-in-loop-i-1, At-loop-i, Else-not-place_right}
 
+pub even_value-v-requires : goal.even_value-v-requires
+even_value-v-requires c = search rules
+
 -- A character is read.
 abbrev AtByte : Type 0
 AtByte = After-shared_slice_known-in-loop-i-1
@@ -38,7 +41,7 @@ abbrev AtRight : Type 0
 AtRight = Else-not-place_right
 
 may-stand : (c : AtRight) → place_right (i-of (goal.at.even_value-v-requires c).After-shared_slice_known-in-loop-i-1 + 1) (byte (goal.at.even_value-v-requires c).After-shared_slice_known-in-loop-i-1) ≡ true
-may-stand c = sym c.place_right.ensures ∙ not-false c.place_right.result c.if-not-place_right.false
+may-stand c = sym c.place_right.ensures ∙ c.if-not-place_right.false
 
 -- What it counts.
 abbrev AtValue : Type 0
@@ -55,7 +58,7 @@ pub loop-i-init : goal.loop-i-init
 loop-i-init c = (c.if-code-ne-PLACES.false, omega arith, counted_none place_right value_at _)
 
 pub returns-then-not-place_right : goal.returns-then-not-place_right
-returns-then-not-place_right c = let b = (goal.at.returns-then-not-place_right c).After-shared_slice_known-in-loop-i-1 in sym (person-stop (code b) b.loop-i.invariant.0 _ _ (counted b) (in-first b) (sym c.place_right.ensures ∙ not-true c.place_right.result c.if-not-place_right.true))
+returns-then-not-place_right c = let b = (goal.at.returns-then-not-place_right c).After-shared_slice_known-in-loop-i-1 in sym (person-stop (code b) b.loop-i.invariant.0 _ _ (counted b) (in-first b) (sym c.place_right.ensures ∙ c.if-not-place_right.true))
 
 pub bounds-odd-v : goal.bounds-odd-v
 bounds-odd-v c = let e = c.even_value-v.ensures in let s = letter-small _ _ (may-stand (goal.at.bounds-odd-v c).Else-not-place_right) in omega arith
