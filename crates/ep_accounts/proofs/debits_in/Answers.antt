@@ -3,6 +3,7 @@ use mathlib.Core.Path.{◌≡◌, refl}
 use mathlib.Core.Bool.{true}
 use native.Mathlib.Omega.{arith}
 use borrow.Author.Rules.{rules}
+use borrow.Enum.Refused.{opened}
 use Rattle.ep_accounts.specs.Accounts.{row_count, digits_to, debits_to}
 use Rattle.ep_accounts.proofs.Rows.{debits-spoilt, sum_fits, digits_more, debits-more, debits-all}
 use Rattle.ep_accounts.proofs.debits_in.Goals as goal
@@ -15,7 +16,7 @@ pub debit_of-said-requires : goal.debit_of-said-requires
 debit_of-said-requires c = (c.requires, c.loop-k-test.true)
 
 pub returns-in_default : goal.returns-in_default
-returns-in_default c = debits-spoilt _ _ _ c.debit_of-said.ensures c.loop-k-test.true c.in_default.in_default-own.keys2
+returns-in_default c = debits-spoilt _ _ _ c.debit_of-said.ensures c.loop-k-test.true (opened c.in_default.in_default-own.keys2)
 
 pub overflow_add-sum : goal.overflow_add-sum
 overflow_add-sum c = omega (arith, sum_fits _ _ _ c.debit_of-said.ensures _ c.in-Number.is _ c.loop-k.invariant.2 c.requires c.loop-k-test.true)
