@@ -2,12 +2,13 @@
 use Rattle.layout.proofs.OtherKinds.{no_line}
 use Rattle.order.specs.Order.{full}
 use borrow.Author.Rules.{rules}
+use borrow.Enum.Refused.{opened}
 use mathlib.Core.Path.{sym}
 use Rattle.order.proofs.is_full.Goals as goal
 
 pub returns-in_default : goal.returns-in_default
 unfolding full
-returns-in_default c = sym (no_line _ _ c.args.k c.in_default.in_default-own.keys2)
+returns-in_default c = sym (no_line _ _ c.args.k (opened c.in_default.in_default-own.keys2))
 
 pub returns : goal.returns
 unfolding full
