@@ -10,7 +10,7 @@ use lib.Dec.{ltb}
 use lib.ListN.{length, drop, get_or}
 use lib.Seq.{get_or-take, get_or-drop}
 use Rattle.text.specs.declared.Digits.{Digits}
-use Rattle.text.specs.declared.Digits.TheVariants.{Number, NonDigit}
+use Rattle.text.specs.declared.Digits.TheVariants.{Number, NonDigit, TooLong}
 use Rattle.text.specs.Numbers.{digit, number_of}
 use Rattle.text.proofs.Bytes.{part_length}
 use Rattle.text.proofs.NonDigits.{DigitsTo, Tells, number, non-digit, digits-told}
@@ -64,6 +64,7 @@ module _ (r : List ℕ) (l : length r ≡ 120) where
     field-said : (d : Digits) → Tells 0 (bytes_of r f) d → {x : Outcome} → Said fl r x → Said (f ∷ fl) r (or_bad d f x)
     field-said (Number v) (number d) s = on-digits d s
     field-said (NonDigit k) (non-digit m p h w d) s = let e : k ≡ m = omega arith in fails {i = f.start + k} (rw e (at-non-digit m h w d))
+    field-said TooLong x s = elim x [ ]
 
   said : (n : ℕ) (fl : List Field) → InOrder n fl → Said fl r (bad_fields fl r)
   unfolding bad_fields in_columns

@@ -1,0 +1,7 @@
+use Rattle.rules.specs.State.{start_state}
+use borrow.Author.Rules.{rules}
+use Rattle.rules.proofs.start.Goals as goal
+
+pub returns : goal.returns
+unfolding start_state
+returns c = simp c.zero-delega.ensures

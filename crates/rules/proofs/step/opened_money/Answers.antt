@@ -1,0 +1,5 @@
+use borrow.Author.Rules.{rules}
+use Rattle.rules.proofs.step.opened_money.Goals as goal
+
+pub returns : goal.returns
+returns c = simp c.zero-delega.ensures
