@@ -55,6 +55,7 @@ non-digit-near f r w d e = rw e (go (number_of (bytes_of r f)) (digits-told (byt
     go : (d : Digits) → Tells 0 (bytes_of r f) d → non_digit_at f d < 1000
     go (Number v) (number h) = omega (arith, w.forward, w.inside)
     go (NonDigit k) (non-digit m p h q g) = omega (arith, w.forward, w.inside, narrow)
+    go TooLong x = elim x [ ]
 
 -- a turn over the fields
 module _ (fl : List Field) (r : List ℕ) (j : ℕ) (h : j < length fl) where

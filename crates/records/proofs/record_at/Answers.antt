@@ -1,0 +1,6 @@
+use native.Mathlib.Nat.{add-sub_cancel_left}
+use borrow.Author.Rules.{rules}
+use Rattle.records.proofs.record_at.Goals as goal
+
+pub returns : goal.returns
+returns c = rw (add-sub_cancel_left c.args.at 120)
