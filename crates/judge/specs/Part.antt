@@ -13,4 +13,4 @@ record_start f k = cond (eqb k 0) 0 (cond (ltb (length f / 120) k) 0 (k * 120 - 
 
 -- "within the caller's own buffer": the bytes of a part, and where in the flow it starts
 abbrev pub LiesAt : Bor (List ℕ) → List ℕ → ℕ → Bor (List ℕ) → Type 0
-LiesAt flow bytes start r = (r.now ≡ bytes) × (r.ref_ptr.0 ≡ flow.ptr.0) × (r.ref_ptr.1 ≡ flow.ptr.1 + start)
+LiesAt flow bytes start r = (r.now ≡ bytes) × (r.ref_ptr.0 ≡ flow.ref_ptr.0) × (r.ref_ptr.1 ≡ flow.ref_ptr.1 + start)
