@@ -1,0 +1,13 @@
+use borrow.Author.Tests.{eq-eqb, ne_eqb}
+use Rattle.state.specs.Numbers.{state_of}
+use Rattle.portion.specs.Portion.{held_name}
+use borrow.Author.Rules.{rules}
+use Rattle.portion.proofs.held_name.Goals as goal
+
+pub returns-then-kept-eq0 : goal.returns-then-kept-eq0
+unfolding held_name state_of
+returns-then-kept-eq0 c = rw (eq-eqb _ _ c.if-kept-eq0.true) c.head_name.ensures
+
+pub returns : goal.returns
+unfolding held_name state_of
+returns c = rw (ne_eqb _ _ c.if-kept-eq0.false)
