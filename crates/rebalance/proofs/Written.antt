@@ -136,6 +136,7 @@ written-number w n = go (number_of (digits_of w n)) refl (digits-told (digits_of
     go : (d : Digits) → number_of (digits_of w n) ≡ d → Tells 0 (digits_of w n) d → (v : ℕ) × (number_of (digits_of w n) ≡ Number v)
     go (Number v) e t = (v, e)
     go (NonDigit k) e (non-digit m q h x g) = absurd (true≢false (sym (written-digits w n m (omega (arith, length_digits w n))) ∙ x))
+    go TooLong e t = elim t [ ]
 
 -- Held fields are made of digits, whether they fit or not.
 pub holds-numbers : (xs : List Stored) (r : List ℕ) → Holds xs r → bad_fields (value_fields xs) r ≡ Pass

@@ -1,0 +1,6 @@
+-- `delega::answer_of` meets its contract.
+use borrow.Author.Rules.{rules}
+use Rattle.delega.proofs.answer_of.Goals as goal
+
+pub returns : goal.returns
+returns c = simp (c.final_of.ensures, c.size-size.ensures, c.first-first.ensures)

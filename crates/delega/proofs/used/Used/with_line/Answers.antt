@@ -1,0 +1,6 @@
+-- `delega::used::Used::with_line` meets its contract.
+use borrow.Author.Rules.{rules}
+use Rattle.delega.proofs.used.Used.with_line.Goals as goal
+
+pub returns : goal.returns
+returns c = rw c.bit_of.ensures
