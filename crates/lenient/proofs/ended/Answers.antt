@@ -1,0 +1,13 @@
+-- `lenient::ended` meets its contract: behind EF there is no refusal, else 5.
+use Rattle.lenient.specs.Lenient.{ended}
+use borrow.Author.Tests.{eq-eqb, ne_eqb}
+use borrow.Author.Rules.{rules}
+use Rattle.lenient.proofs.ended.Goals as goal
+
+pub returns-then-stage-eq-TAIL : goal.returns-then-stage-eq-TAIL
+unfolding ended
+returns-then-stage-eq-TAIL c = rw (eq-eqb _ _ c.if-stage-eq-TAIL.true)
+
+pub returns : goal.returns
+unfolding ended
+returns c = rw (ne_eqb _ _ c.if-stage-eq-TAIL.false)
