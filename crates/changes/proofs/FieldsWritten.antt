@@ -75,6 +75,7 @@ apart-at n (f ∷ fl) o (suc j) h = apart-at f.end fl o.3 j (omega arith)
 
 -- A field of a list that stands so from an index on starts there or behind it, and ends within the record.
 pub apart-one : (n : ℕ) (fl : List Field) → Apart n fl → (g : Field) → OneOf g fl → (n ≤ g.start) × (g.start < g.end) × (g.end ≤ 120)
+apart-one n [] a g x'' = elim x'' [ ]
 apart-one n (f ∷ fl) a g (first e) = rw e (a.0, a.1, a.2)
 apart-one n (f ∷ fl) a g (later o) = let h = apart-one f.end fl a.3 g o in (omega (arith, a.0, a.1, h.0), h.1, h.2)
 

@@ -24,6 +24,7 @@ use Rattle.changes.proofs.Listing.{record-few}
 
 -- What is among two lists is among one of them.
 in-front : {p : Place} (ps qs : List Place) → Listed p ps → Listed p (ps ++ qs)
+in-front {p = p} [] qs x' = elim x' [ ]
 in-front (p ∷ ps) qs (here e) = here e
 in-front (p ∷ ps) qs (behind h) = behind (in-front ps qs h)
 
@@ -71,6 +72,7 @@ pub record DiffersIn (k : ℕ) (fl : List Field) (old new : List ℕ) (p : Place
 module _ (k : ℕ) (old new : List ℕ) where
   listed_in : (fl : List Field) {p : Place} → Listed p (changed_in k fl old new) → DiffersIn k fl old new p
   unfolding changed_in
+  listed_in [] {p = p} h = elim h [ ]
   listed_in (f ∷ fl) {p} h = go (stays f old new) refl h (listed_in fl)
     where
       more : DiffersIn k fl old new p → DiffersIn k (f ∷ fl) old new p
@@ -83,6 +85,7 @@ module _ (k : ℕ) (old new : List ℕ) where
 
   in-listed : (fl : List Field) (g : Field) → OneOf g fl → (bytes_of old g ≡ bytes_of new g → ⊥) → Listed (place k (g.start + 1)) (changed_in k fl old new)
   unfolding changed_in
+  in-listed [] g o d = elim o [ ]
   in-listed (f ∷ fl) g o d = go (stays f old new) refl o (in-listed fl g)
     where
       go : (b : Bool) → stays f old new ≡ b → OneOf g (f ∷ fl) → (OneOf g fl → (bytes_of old g ≡ bytes_of new g → ⊥) → Listed (place k (g.start + 1)) (changed_in k fl old new)) → Listed (place k (g.start + 1)) (cond b (changed_in k fl old new) (place k (f.start + 1) ∷ changed_in k fl old new))
@@ -99,6 +102,8 @@ record DiffersFrom (k : ℕ) (rs ss : List (List ℕ)) (p : Place) : Type 0 wher
 
 listed-from : (k : ℕ) (rs ss : List (List ℕ)) {p : Place} → Listed p (changed_from k rs ss) → DiffersFrom k rs ss p
 unfolding changed_from
+listed-from k (r ∷ rs) [] {p = p} h = elim h [ ]
+listed-from k [] ss {p = p} h = elim h [ ]
 listed-from k (r ∷ rs) (s ∷ ss) {p} h = ⊎_elim (λ i. at_first (listed_in (k + 1) r s _ i)) (λ i. later-on (listed-from (k + 1) rs ss i)) (in_either (changed_in (k + 1) (written_fields (kind_in r)) r s) (changed_from (k + 1) rs ss) h)
   where
     at_first : DiffersIn (k + 1) (written_fields (kind_in r)) r s p → DiffersFrom k (r ∷ rs) (s ∷ ss) p

@@ -93,4 +93,4 @@ all-again numbers st n (r ∷ rs) [] s = absurd s
 all-again numbers st n (r ∷ rs) (q ∷ qs) s =
     let a = stayed-again s.0 st n in
     let k = ap (next_deleghe n) (stayed-kind s.0) in
-    ap₂ ◌∷◌ a.0 (ap₂ (λ (t : State) (m : ℕ). rebalanced t (renumbered m qs)) a.1 k ∙ all-again numbers _ _ rs qs s.1)
+    ap₂ ◌∷◌ a.0 (ap₂ (λ (t : State) (m : ℕ). rebalanced t (renumbered m qs)) a.1 k ∙ all-again numbers (next st (with_number (kind_in r) (next_deleghe n (kind_in r)) r)) _ rs qs s.1)

@@ -1,0 +1,23 @@
+-- `changes::balance_fields` meets its contract.
+use native.Mathlib.Omega.{arith}
+use borrow.Author.Rules.{rules}
+use Rattle.layout.proofs.Table.{near-rule}
+use Rattle.changes.proofs.balance_fields.Goals as goal
+
+pub overflow_add-sign : goal.overflow_add-sign
+overflow_add-sign c = rw c.section_at-section.ensures (omega (arith, near-rule c.args.s))
+
+pub amount_at-balance-requires : goal.amount_at-balance-requires
+amount_at-balance-requires c = rw c.section_at-section.ensures (omega (arith, near-rule c.args.s))
+
+pub amount_at-debit-requires : goal.amount_at-debit-requires
+amount_at-debit-requires c = rw c.section_at-section.ensures (omega (arith, near-rule c.args.s))
+
+pub amount_at-credit-requires : goal.amount_at-credit-requires
+amount_at-credit-requires c = rw c.section_at-section.ensures (omega (arith, near-rule c.args.s))
+
+pub returns-then-section : goal.returns-then-section
+returns-then-section c = rw (← c.section_at-section.ensures, c.if-section.true) (simp (c.amount_at-balance.ensures, c.amount_at-debit.ensures, c.amount_at-credit.ensures))
+
+pub returns : goal.returns
+returns c = rw (← c.section_at-section.ensures, c.if-section.false) (simp (c.two_fields.ensures, c.amount_at-balance.ensures))

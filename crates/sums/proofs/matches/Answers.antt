@@ -1,0 +1,16 @@
+-- `sums::matches` meets its contract.
+use mathlib.Core.Path.{ap, ◌∙◌}
+use borrow.Author.Rules.{rules}
+use borrow.Author.Tests.{lt-ltb, le-ltb}
+use Rattle.sums.specs.declared.KeptSums.{KeptSums}
+use Rattle.sums.specs.LineSums.{same_sums, stands_for}
+use Rattle.sums.specs.Inner.{matched}
+use Rattle.sums.proofs.matches.Goals as goal
+
+pub returns-then-flow-gt-MOST_BYTES : goal.returns-then-flow-gt-MOST_BYTES
+unfolding matched
+returns-then-flow-gt-MOST_BYTES c = rw (lt-ltb _ _ c.if-flow-gt-MOST_BYTES.true)
+
+pub returns : goal.returns
+unfolding matched stands_for
+returns c = c.same.ensures ∙ (ap (λ (l : KeptSums). same_sums c.args.kept.sums l.sums) c.of_lines-lines.ensures ∙ rw (le-ltb _ _ c.if-flow-gt-MOST_BYTES.false))
