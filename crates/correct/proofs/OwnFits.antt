@@ -118,6 +118,13 @@ module _ (d s : ℕ) where
       go (kind_in r) refl (follows b.stage (kind_in r) c.low c.high h.0.ordered) v.0 v.1 (λ i j. fits-behind (next a r) (next b r) rs (off-on d s a b r o) i j h.1 v.1 z)
     where
       go : (k : Kind) → kind_in r ≡ k → Follows b.stage k → fits_all (stored_of a k) ≡ true → all_fit (next a r) rs ≡ true → ((next b r).deleghe ≡ d → Behind s (next b r).stage → Decided (next b r) rs) → Decided b (r ∷ rs)
+      go Rattle.layout.specs.declared.Kind.TheVariants.Unknown e w u i on = elim w [ ]
+      go Tail e w u i on = elim w [ ]
+      go Rattle.layout.specs.declared.Kind.TheVariants.Addressee e w u i on = elim w [ ]
+      go Rattle.layout.specs.declared.Kind.TheVariants.Receipt e w u i on = elim w [ ]
+      go Rattle.layout.specs.declared.Kind.TheVariants.Domicile e w u i on = elim w [ ]
+      go Rattle.layout.specs.declared.Kind.TheVariants.Taxpayer e w u i on = elim w [ ]
+      go Rattle.layout.specs.declared.Kind.TheVariants.Head e w u i on = elim w [ ]
       go (Line t) e w u i on =
           let l = later s c w in
           let n = line-stage b r e in
@@ -144,6 +151,13 @@ module _ (d s : ℕ) where
       go : (k : Kind) → kind_in r ≡ k → Follows b.stage k → all_fit (next a r) rs ≡ true →
           ((next b r).deleghe ≡ d → (next b r).stage.phase ≡ after_line → (next b r).stage.section ≡ s → all_fit (next b r) rs ≡ cond (fits_all (stored_section s (sums_at (next b r) rs))) (delega_fits (next b r) rs) false) →
           all_fit b (r ∷ rs) ≡ cond (fits_all (stored_section s (sums_at b (r ∷ rs)))) (delega_fits b (r ∷ rs)) false
+      go Rattle.layout.specs.declared.Kind.TheVariants.Unknown e x17 g on = elim x17 [ ]
+      go Tail e x16 g on = elim x16 [ ]
+      go Rattle.layout.specs.declared.Kind.TheVariants.Addressee e x15 g on = elim x15 [ ]
+      go Rattle.layout.specs.declared.Kind.TheVariants.Receipt e x14 g on = elim x14 [ ]
+      go Rattle.layout.specs.declared.Kind.TheVariants.Domicile e x13 g on = elim x13 [ ]
+      go Rattle.layout.specs.declared.Kind.TheVariants.Taxpayer e x12 g on = elim x12 [ ]
+      go Rattle.layout.specs.declared.Kind.TheVariants.Head e x11 g on = elim x11 [ ]
       go (Line _) e (same-section i j) g on = let n = line-stage b r e in rw e (on (n.2 ∙ m) n.0 (n.1 ∙ (j ∙ t)))
       go (Line _) e (later-section i j) g on = absurd (omega (arith, i, q))
       go (Balance u) e (own-balance i j) g on =
