@@ -13,6 +13,7 @@ use Rattle.text.proofs.Puts.{length-put}
 use Rattle.layout.specs.declared.Kind.TheVariants.{Head, Line, Balance, Payment, Tail}
 use Rattle.layout.specs.Sections.{section_at}
 use Rattle.layout.specs.Kinds.{numbered}
+use Rattle.rules.specs.Step.{next_deleghe}
 use Rattle.rebalance.specs.Rebalance.{Sized}
 use Rattle.sheet.specs.Slots.{type_text, subtype_text, made_balance}
 use Rattle.sheet.specs.Sheet.{Entry, entry, Read, sheet_of}
@@ -76,7 +77,7 @@ contents-entered c k = (
 -- The numbers of records behind others go on.
 numbering-append : (d m n : ℕ) (xs ys : List Entry) → Numbering d xs m → Numbering m ys n → Numbering d (xs ++ ys) n
 numbering-append d m n [] ys h i = let e : d ≡ m = h in rw e i
-numbering-append d m n (x ∷ xs) ys h i = (h.0, numbering-append _ m n xs ys h.1 i)
+numbering-append d m n (x ∷ xs) ys h i = (h.0, numbering-append (next_deleghe d x.slot) m n xs ys h.1 i)
 
 -- The sections of a delega carry its number.
 lines-numbered : (d x : ℕ) (rs : List (List ℕ)) → Numbering d (map (entry (Line x) d) rs) d

@@ -5,7 +5,6 @@ use mathlib.Core.Bool.{Bool, true, false, cond, false≢true}
 use mathlib.Core.List.{List, [], ◌∷◌}
 use native.Mathlib.Omega.{arith}
 use lib.ListN.{length, get_or, replicate, get_or-replicate}
-use Rattle.text.specs.Numbers.{digits_of}
 use Rattle.text.specs.Placing.{put_at}
 use Rattle.text.proofs.Numerals.{length_digits}
 use Rattle.text.proofs.Puts.{length-put}

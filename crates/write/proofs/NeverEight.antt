@@ -4,11 +4,10 @@ use mathlib.Core.Path.{◌≡◌, refl, sym, ap, ◌∙◌}
 use mathlib.Core.Bool.{Bool, true, false, cond, false≢true}
 use mathlib.Core.List.{List, [], ◌∷◌, ◌++◌}
 use native.Mathlib.Omega.{arith}
-use borrow.Author.Tests.{eq-eqb}
 use lib.ListN.{length, take, drop}
 use Rattle.text.specs.Numbers.{number_of, amount_of, digits_of}
 use Rattle.text.specs.Placing.{put_at}
-use Rattle.text.proofs.Numerals.{number_digits, length_digits}
+use Rattle.text.proofs.Numerals.{number_digits}
 use Rattle.text.proofs.Puts.{length-put, put-here, put-before}
 use Rattle.layout.specs.declared.Kind.{Kind}
 use Rattle.layout.specs.declared.Kind.TheVariants.{Head, Taxpayer, Domicile, Line, Balance, Payment, Receipt, Addressee, Tail, Unknown}
@@ -19,7 +18,7 @@ use Rattle.text.specs.Among.{among}
 use Rattle.rules.specs.declared.State.{State}
 use Rattle.rules.specs.State.{start_state}
 use Rattle.rules.specs.Stored.{stored_of}
-use Rattle.rules.specs.Checks.{carried, number_fault, tail_name}
+use Rattle.rules.specs.Checks.{number_fault, tail_name}
 use Rattle.rules.specs.Step.{next_deleghe, next}
 use Rattle.judge.specs.Refusal.{Refusal, refusal}
 use Rattle.judge.specs.Plain.{state_after}

@@ -17,7 +17,7 @@ returns c =
     let a = s.requires.apart in
     let nd : length s.args.debit ≡ 15 = search rules in
     let nc : length s.args.credit ≡ 15 = search rules in
-    let gd : s.args.debit-at + length s.args.debit ≤ length f = omega arith in
+    let gd : s.args.debit_at + length s.args.debit ≤ length f = omega arith in
     let e = part-put _ _ _ _ gd c.put_part.ensures.1 in
     let n = ap length e ∙ length-put _ _ _ gd in
-    part-put _ _ _ _ (omega arith) c.put_part-2.ensures.1 ∙ ap (put_at s.args.credit-at s.args.credit) e
+    part-put _ _ _ _ (omega arith) c.put_part-2.ensures.1 ∙ ap (put_at s.args.credit_at s.args.credit) e

@@ -19,7 +19,7 @@ abbrev flow : Weighed → List ℕ
 flow c = c.args.flow.now
 
 abbrev new : Weighed → List ℕ
-new c = amounts_put c.args.debit-at c.args.credit-at c.args.debit c.args.credit (flow c)
+new c = amounts_put c.args.debit_at c.args.credit_at c.args.debit c.args.credit (flow c)
 
 wrote : (c : Weighed) → c.put_amounts.new.flow ≡ new c
 wrote c = c.put_amounts.ensures

@@ -1,0 +1,18 @@
+-- `write::settle` meets its contract.
+use mathlib.Core.Path.{refl, sym, ◌∙◌}
+use Rattle.write.proofs.Settled.{settled-refused, settled-unfit, settled-written, settled-room}
+use Rattle.write.proofs.settle.Goals as goal
+
+pub returns-in-Refused : goal.returns-in-Refused
+returns-in-Refused c = (settled-refused _ _ _ c.judge_kept.ensures _ _ _ c.in-Refused.is, refl)
+
+pub rebalance-requires : goal.rebalance-requires
+rebalance-requires c = (c.requires.0, sym c.survey-surveyed.ensures.1 ∙ c.if-surveyed.true)
+
+pub returns-then-surveyed : goal.returns-then-surveyed
+returns-then-surveyed c =
+    let r = c.rebalance.ensures in
+    (settled-written _ _ _ c.judge_kept.ensures c.in_default.is _ c.survey-surveyed.ensures.1 c.requires.0 c.if-surveyed.true _ r, settled-room _ _ _ _ c.requires.0 c.requires.1 r c.put_part.ensures.1)
+
+pub returns : goal.returns
+returns c = (settled-unfit _ _ _ c.judge_kept.ensures c.in_default.is _ c.survey-surveyed.ensures.1 c.if-surveyed.false, refl)
