@@ -20,6 +20,7 @@ use Rattle.rebalance.proofs.KeptNumbers.{kept_in, last-in}
 use Rattle.lenient.specs.declared.Lenient.{Lenient}
 use Rattle.lenient.specs.declared.Lenient.TheVariants as Kept
 use Rattle.changes.specs.Changes.{changes_of}
+use Rattle.judge.specs.Plain.{state_after}
 use Rattle.mend.specs.declared.Mending.{Mending}
 use Rattle.mend.specs.declared.Mending.TheVariants.{Refused}
 use Rattle.mend.specs.Mending.{refusal_mended, remaining_from, remaining, listed_in, weighed, unless, mending_of}
@@ -29,7 +30,7 @@ use Rattle.mend.proofs.Remaining.{all-remain, none-ended, told-first, Ends, pass
 
 -- A fault that remains in a record has one of these numbers.
 pub remaining-in : {name : List ℕ} {st : State} {rs : List (List ℕ)} {n k p : ℕ} → FirstRemaining name st rs n k p → In remaining_numbers (Fault n p)
-remaining-in t = rw (← t.fails) (kept_in _ _ _ _ (last-in _ _ _))
+remaining-in {name} {st} t = rw (← t.fails) (kept_in _ name (state_after st t.before) t.here (last-in name (state_after st t.before) t.here))
 
 -- A flow and a list.
 module _ (f list : List ℕ) where

@@ -76,6 +76,7 @@ wrongly (g ∷ fl) (x ∷ xs) r s n p c f o e = go (right x r) refl e (wrongly f
 
 -- The columns of the tail, in the order of its refusals, are those that are written.
 tail-one : (g : Field) → OneOf g (tail_deleghe ∷ tail_records ∷ tail_sum ∷ []) → OneOf g (tail_deleghe ∷ tail_sum ∷ tail_records ∷ [])
+tail-one g (later (later (later x9))) = elim x9 [ ]
 tail-one g (first e) = first e
 tail-one g (later (first e)) = later (later (first e))
 tail-one g (later (later (first e))) = later (first e)

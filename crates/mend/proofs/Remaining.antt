@@ -78,7 +78,7 @@ module _ (name : List ℕ) where
     failing : {n k p : ℕ} → FirstRemaining name st rs n k p → Ends st rs (Kept.Refused n (st.seen + k) p)
 
   -- Behind a record in which no fault remains it ends as behind those that follow.
-  ends_on : {x : Lenient} (st : State) (r : List ℕ) (rs : List (List ℕ)) → kept_fault name st r ≡ Pass → Ends (next st r) rs x → Ends st (r ∷ rs) x
+  ends_on : (st : State) (r : List ℕ) (rs : List (List ℕ)) {x : Lenient} → kept_fault name st r ≡ Pass → Ends (next st r) rs x → Ends st (r ∷ rs) x
   unfolding next state_after
   ends_on st r rs e (passing h q) = passing (e, h) q
   ends_on st r rs e (unended h q) = rw (let z : st.seen + 1 + length rs + 1 ≡ st.seen + suc (length rs) + 1 = omega arith in z) (unended (e, h) q)
