@@ -1,0 +1,47 @@
+-- `kept::drop_kept` meets its contract.
+use mathlib.Core.Path.{◌≡◌, sym, ap, ◌∙◌}
+use native.Mathlib.Omega.{arith}
+use borrow.Author.Tests.{not-true, not-false}
+use lib.ListN.{length-take}
+use Rattle.dropping.proofs.Dropped.{dropped-room, dropped-within}
+use Rattle.kept.proofs.Guarded.{matched-stands}
+use Rattle.kept.proofs.Dropped.{answer-none, answer-dropped, answer-plain}
+use borrow.Author.Rules.{rules}
+use Rattle.kept.proofs.drop_kept.Goals as goal
+
+pub returns-then-not-matches : goal.returns-then-not-matches
+returns-then-not-matches c = answer-none _ _ _ (sym c.matches.ensures ∙ c.if-not-matches.true) _ c.strict_mismatch-own.ensures
+
+pub slice_bounds-of_lines-end : goal.slice_bounds-of_lines-end
+slice_bounds-of_lines-end c =
+    let a = c in
+    let k = a in
+    dropped-within _ _ _ _ _ k.drop_deleghe-answer.ensures.0 k.drop_deleghe-answer.ensures.1 a.in-Dropped.is
+
+pub slice_bounds-of_lines-end-in-Dropped : goal.slice_bounds-of_lines-end-in-Dropped
+slice_bounds-of_lines-end-in-Dropped c =
+    let a = c in
+    let k = a in
+    rw length-take (omega (arith, dropped-within _ _ _ _ _ k.drop_deleghe-answer.ensures.0 k.drop_deleghe-answer.ensures.1 a.in-Dropped.is))
+
+pub of_lines-left-requires : goal.of_lines-left-requires
+of_lines-left-requires c =
+    let a = c in
+    let k = a in
+    let e = k in
+    let m = matched-stands _ _ (sym e.matches.ensures ∙ e.if-not-matches.false) in
+    let r = dropped-room _ _ (sym k.drop_deleghe-answer.ensures.0 ∙ a.in-Dropped.is) in
+    rw length-take (omega (arith, m.1, r.2))
+
+pub returns-in-Dropped : goal.returns-in-Dropped
+returns-in-Dropped c =
+    let a = c in
+    let k = a in
+    let e = k in
+    answer-dropped _ _ _ (matched-stands _ _ (sym e.matches.ensures ∙ e.if-not-matches.false)).0 _ (sym k.drop_deleghe-answer.ensures.0 ∙ a.in-Dropped.is) _ k.drop_deleghe-answer.ensures.1 _ c.of_lines-left.ensures
+
+pub returns : goal.returns
+returns c =
+    let k = c in
+    let e = k in
+    answer-plain _ _ _ (matched-stands _ _ (sym e.matches.ensures ∙ e.if-not-matches.false)).0 _ k.drop_deleghe-answer.ensures.0 _ _ _ c.in_default.is _ k.drop_deleghe-answer.ensures.1

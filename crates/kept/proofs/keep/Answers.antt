@@ -1,0 +1,12 @@
+-- `kept::keep` meets its contract.
+use mathlib.Core.Path.{ap}
+use Rattle.judge.specs.declared.Judgement.{Judgement}
+use Rattle.sums.specs.declared.KeptSums.{KeptSums}
+use Rattle.kept.specs.declared.Keeping.{Keeping}
+use Rattle.kept.specs.Keeping.{keeping}
+use borrow.Author.Rules.{rules}
+use Rattle.kept.proofs.keep.Goals as goal
+
+pub returns : goal.returns
+unfolding keeping
+returns c = ap (λ (j : Judgement). record { verdict = j.verdict; kept = record { sums = j.summary.sums } }) c.judge-judgement.ensures
