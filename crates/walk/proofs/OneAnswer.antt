@@ -47,7 +47,7 @@ some-step-on : (w : Walker) → (s : Stepped) × SteppedOn w s
 some-step-on w =
     let f = w.flow.now in
     let a = answer_at f w.place in
-    let r : Bor (List ℕ) = record { ref_ptr = (w.flow.ptr.0, w.flow.ptr.1 + start_in f a); ghost_name = w.flow.name; now = part_in f a } in
+    let r : Bor (List ℕ) = record { ref_ptr = (w.flow.ref_ptr.0, w.flow.ref_ptr.1 + start_in f a); now = part_in f a } in
     (record { part = r; answer = a; walker = record { flow = w.flow; place = place_after a w.place } }, record { answer = refl; part = (refl, refl, refl); flow = refl; place = refl })
 
 -- and so a k-th one for each k from 1 on: what is shown of the k-th step of a walk is shown of something

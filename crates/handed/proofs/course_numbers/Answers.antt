@@ -1,0 +1,4 @@
+use Rattle.handed.proofs.course_numbers.Goals as goal
+
+pub returns-in-Refused : goal.returns-in-Refused
+returns-in-Refused c = rw c.in-Refused.is
