@@ -1,7 +1,7 @@
 -- A line that has an amount: only the section's rule on credits is left, and a fault is at the credit.
 use Prim.Native.Nat.{ℕ, ◌+◌}
 use mathlib.Core.Path.{◌≡◌}
-use mathlib.Core.Bool.{Bool, true, false, cond}
+use mathlib.Core.Bool.{false}
 use borrow.Author.Tests.{eq-eqb, ne_eqb}
 use Rattle.layout.specs.Sections.{section_at}
 use Rattle.amounts.specs.declared.Outcome.TheVariants.{Fault}

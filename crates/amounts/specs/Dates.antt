@@ -1,5 +1,5 @@
 -- Believed. The rule on dates, as ask 4 of document 02 amends it.
-use Rattle.std.specs.Prelude.{ℕ, ◌/◌, ◌%◌, Bool, false, cond, List, [], ◌∷◌, eqb, get_or}
+use Rattle.std.specs.Prelude.{ℕ, ◌/◌, ◌%◌, Bool, cond, List, [], ◌∷◌, eqb, get_or}
 use Rattle.text.specs.Among.{from_to}
 
 -- "years are 2000 to 2099, with a leap year each fourth": of two digits, so 2000 is 0

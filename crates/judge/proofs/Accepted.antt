@@ -20,7 +20,6 @@ use Rattle.amounts.specs.declared.Outcome.TheVariants.{Pass, Fault}
 use Rattle.rules.specs.declared.State.{State}
 use Rattle.rules.specs.State.{start_state}
 use Rattle.order.specs.Stages.{at_start, after_tail}
-use Rattle.amounts.specs.Outcomes.{first}
 use Rattle.text.specs.Among.{among}
 use Rattle.order.specs.Order.{stands, type_stands, standing}
 use Rattle.rules.specs.Stored.{stored_of, wrong}

@@ -1,11 +1,11 @@
 -- The counts of an accepted flow: its records, its deleghe, one for each record of type 10, and its lines.
-use Prim.Native.Nat.{ℕ, zero, suc, ◌+◌, ◌/◌}
+use Prim.Native.Nat.{ℕ, ◌+◌, ◌/◌}
 use mathlib.Core.Path.{◌≡◌, refl, ap, ◌∙◌}
 use mathlib.Core.Bool.{Bool, true, false, cond}
 use mathlib.Core.List.{List, [], ◌∷◌}
 use native.Mathlib.Omega.{arith}
 use lib.Dec.{eqb}
-use lib.ListN.{length, drop}
+use lib.ListN.{length}
 use Rattle.text.specs.declared.Digits.{Digits}
 use Rattle.text.specs.declared.Digits.TheVariants.{Number, NonDigit, TooLong}
 use Rattle.layout.specs.declared.Section.{Section}
@@ -24,7 +24,7 @@ use Rattle.rules.proofs.Others.{counted-once}
 use Rattle.judge.specs.declared.Verdict.TheVariants.{Accepted}
 use Rattle.judge.specs.declared.Summary.{Summary}
 use Rattle.judge.specs.declared.Judgement.{Judgement}
-use Rattle.judge.specs.Flow.{summary_of, chunks, records_of, head_name_of, judged}
+use Rattle.judge.specs.Flow.{summary_of, records_of, head_name_of, judged}
 use Rattle.judge.proofs.Records.{length-chunks}
 use Rattle.judge.specs.Plain.{sum_over, opens, tens_in, line_count_in, state_after, NoFault}
 use Rattle.judge.proofs.Accepted.{accepted-means-no-fault, sound-judged}

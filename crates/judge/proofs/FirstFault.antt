@@ -20,11 +20,11 @@ use Rattle.judge.specs.declared.Verdict.TheVariants.{Accepted, Refused}
 use Rattle.judge.specs.declared.Judgement.{Judgement}
 use Rattle.judge.specs.Refusal.{Refusal, refusal, no_refusal, refusal_of}
 use Rattle.judge.specs.Flow.{refused_with, accepted_with, closing, after, judged_from, records_of, head_name_of, judged}
-use Rattle.judge.specs.Plain.{state_after, NoFault, Whole, Sound, FirstFault, Unfinished, RefusedFor, LongFlow, NoBytes, RaggedFlow, FaultAt, NoTail}
+use Rattle.judge.specs.Plain.{state_after, NoFault, Whole, Sound, FirstFault, RefusedFor, LongFlow, NoBytes, RaggedFlow, FaultAt, NoTail}
 use Rattle.judge.proofs.Turn.{judged-long, judged-empty, judged-ragged}
 use Rattle.judge.proofs.Accepted.{ends-in-tail, judged-whole, no-fault-closing, accepted-means-no-fault, no-fault-is-accepted}
 use Rattle.judge.proofs.Counts.{seen-after}
-use Rattle.judge.proofs.ChecksInOrder.{Numbered, fault-number}
+use Rattle.judge.proofs.ChecksInOrder.{fault-number}
 
 -- a refusal tells of the end of records without a fault, or of the first fault
 module _ (name : List ℕ) (n r p : ℕ) where

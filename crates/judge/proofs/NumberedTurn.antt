@@ -1,5 +1,5 @@
 -- A turn of the judge over a record that carries its delega's number: the amounts behind it, read one by one, and the number, compared as one word.
-use Prim.Native.Nat.{ℕ, suc, ◌+◌, ◌-◌, ◌<◌}
+use Prim.Native.Nat.{ℕ, suc, ◌-◌, ◌<◌}
 use mathlib.Core.Path.{◌≡◌, refl, sym, ap, ◌∙◌}
 use mathlib.Core.Bool.{true, false, false≢true}
 use mathlib.Core.List.{List, ◌∷◌, ◌++◌, map}

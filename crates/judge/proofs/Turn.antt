@@ -16,7 +16,6 @@ use Rattle.rules.specs.declared.State.{State}
 use Rattle.rules.specs.State.{start_state}
 use Rattle.rules.specs.Bounds.{StateBelow}
 use Rattle.state.specs.Numbers.{state_in}
-use Rattle.amounts.specs.Outcomes.{first}
 use Rattle.order.specs.Order.{standing}
 use Rattle.rules.specs.Checks.{char_fault, bad_fields, number_fault, fault}
 use Rattle.rules.specs.Values.{values_in, values_on}

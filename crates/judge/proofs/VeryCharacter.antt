@@ -24,7 +24,7 @@ use Rattle.rules.specs.declared.State.{State}
 use Rattle.rules.specs.Checks.{char_fault, bad_fields, fault}
 use Rattle.rules.specs.NonDigits.{FirstNonDigit}
 use Rattle.rules.proofs.NonDigits.{fault-told, fault-exactly}
-use Rattle.judge.specs.Refusal.{Refusal, refusal, refusal_of}
+use Rattle.judge.specs.Refusal.{refusal, refusal_of}
 use Rattle.judge.specs.Flow.{records_of, head_name_of, judged}
 use Rattle.judge.specs.Part.{record_at}
 use Rattle.judge.proofs.Records.{length-chunks, record-whole, record-number}

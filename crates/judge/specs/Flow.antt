@@ -1,5 +1,5 @@
 -- Believed; `rest_of` and `Ready` serve inner functions. The judgement of a flow: the first fault in the order of the records, or acceptance with the counts and sums.
-use Rattle.std.specs.Prelude.{ℕ, zero, suc, ◌+◌, ◌-◌, ◌*◌, ◌/◌, ◌%◌, ◌≤◌, ◌<◌, ◌≡◌, List, [], ◌∷◌, Bool, true, false, cond, eqb, ltb, length, take, drop}
+use Rattle.std.specs.Prelude.{ℕ, zero, suc, ◌+◌, ◌-◌, ◌*◌, ◌/◌, ◌%◌, ◌≤◌, ◌<◌, ◌≡◌, List, [], ◌∷◌, cond, eqb, ltb, length, take, drop}
 use Rattle.layout.specs.Fields.{bytes_of, support_name}
 use Rattle.amounts.specs.declared.Outcome.{Outcome}
 use Rattle.amounts.specs.declared.Outcome.TheVariants.{Pass, Fault}
@@ -9,7 +9,6 @@ use Rattle.order.specs.Stages.{after_tail}
 use Rattle.rules.specs.Bounds.{StateBelow}
 use Rattle.rules.specs.Checks.{fault}
 use Rattle.rules.specs.Step.{next}
-use Rattle.judge.specs.declared.Verdict.{Verdict}
 use Rattle.judge.specs.declared.Verdict.TheVariants.{Accepted, Refused}
 use Rattle.judge.specs.declared.Summary.{Summary}
 use Rattle.judge.specs.declared.Judgement.{Judgement}

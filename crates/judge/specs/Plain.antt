@@ -7,7 +7,7 @@ use Rattle.layout.specs.declared.Field.{Field}
 use Rattle.layout.specs.declared.RecordType.{RecordType}
 use Rattle.layout.specs.declared.RecordType.TheVariants.{F4, T10, T20, T40, T50, EF, NoType}
 use Rattle.layout.specs.declared.Kind.{Kind}
-use Rattle.layout.specs.declared.Kind.TheVariants.{Head, Taxpayer, Domicile, Line, Balance, Payment, Receipt, Addressee, Tail, Unknown}
+use Rattle.layout.specs.declared.Kind.TheVariants.{Head, Taxpayer, Tail}
 use Rattle.layout.specs.Sections.{section_at}
 use Rattle.layout.specs.Kinds.{of_line, of_payment, type_in, kind_in}
 use Rattle.layout.specs.Fields.{amount_at, final_balance, delega_number, creation_date, support_name, fields_of, bytes_of, value_of}
@@ -18,7 +18,6 @@ use Rattle.amounts.specs.declared.Outcome.{Outcome}
 use Rattle.amounts.specs.declared.Outcome.TheVariants.{Pass, Fault}
 use Rattle.rules.specs.State.{start_state}
 use Rattle.order.specs.Order.{stands, type_stands, full}
-use Rattle.amounts.specs.Amounts.{line_fault}
 use Rattle.amounts.specs.Dates.{date_right}
 use Rattle.amounts.specs.Names.{name_right}
 use Rattle.taxcode.specs.TaxCodes.{code_right}

@@ -1,8 +1,8 @@
 -- Where the numeric fields of each kind of record lie: at most four, within the record, of at most fifteen digits.
 use Prim.Native.Nat.{ℕ, zero, suc, ◌+◌, ◌-◌, ◌≤◌, ◌<◌}
-use mathlib.Core.Path.{◌≡◌, refl}
+use mathlib.Core.Path.{◌≡◌}
 use mathlib.Core.Bool.{Bool, true, false, cond}
-use mathlib.Core.List.{List, [], ◌∷◌, ◌++◌}
+use mathlib.Core.List.{List, [], ◌∷◌}
 use native.Mathlib.Omega.{arith}
 use lib.Dec.{lit≤}
 use lib.ListN.{length, get_or, replicate, get_or-append}
@@ -10,7 +10,7 @@ use Rattle.layout.specs.declared.Field.{Field}
 use Rattle.layout.specs.declared.Kind.{Kind}
 use Rattle.layout.specs.declared.Kind.TheVariants.{Head, Taxpayer, Domicile, Line, Balance, Payment, Receipt, Addressee, Tail, Unknown}
 use Rattle.layout.specs.Sections.{section_at}
-use Rattle.layout.specs.Fields.{Within, fields_of, listed, nowhere, amount_at, delega_number, creation_date, final_balance, tail_deleghe, tail_sum, tail_records}
+use Rattle.layout.specs.Fields.{Within, fields_of, listed, nowhere, amount_at, delega_number}
 use Rattle.layout.proofs.Table.{near-rule}
 
 abbrev AllWithin : List Field → Type 0

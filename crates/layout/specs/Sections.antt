@@ -1,5 +1,5 @@
 -- Believed. The table of the five sections. Columns are given as document 01 and CBI-F24-001 count them; `at` turns them into indexes.
-use Rattle.std.specs.Prelude.{ℕ, ◌-◌, Bool, true, false, List, [], ◌∷◌, get_or}
+use Rattle.std.specs.Prelude.{ℕ, ◌-◌, true, false, List, [], ◌∷◌, get_or}
 use Rattle.layout.specs.declared.Section.{Section}
 
 -- "Positions count from 1": the index of a position

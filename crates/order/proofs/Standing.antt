@@ -1,8 +1,8 @@
 -- The types that may stand here, one section at a time.
-use mathlib.Core.Path.{◌≡◌, refl, sym, ap, ◌∙◌}
+use mathlib.Core.Path.{◌≡◌, refl}
 use mathlib.Core.Bool.{Bool, true, false, cond}
 use Rattle.layout.specs.declared.RecordType.TheVariants.{T40, T50}
-use Rattle.layout.specs.declared.Kind.TheVariants.{Line, Balance, Payment, Receipt, Addressee}
+use Rattle.layout.specs.declared.Kind.TheVariants.{Payment, Receipt, Addressee}
 use Rattle.order.specs.declared.Stage.{Stage}
 use Rattle.order.specs.Order.{stands, section_stands, type_stands}
 

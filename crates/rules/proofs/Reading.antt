@@ -1,15 +1,14 @@
 -- The checks on the values that were read are the checks on the record.
-use Prim.Native.Nat.{ℕ, ◌+◌, ◌-◌}
-use mathlib.Core.Path.{◌≡◌, refl, sym, ap, ◌∙◌}
+use Prim.Native.Nat.{ℕ, ◌+◌}
+use mathlib.Core.Path.{◌≡◌, refl, sym}
 use mathlib.Core.Bool.{Bool, true, false, cond}
 use mathlib.Core.List.{List, [], ◌∷◌}
 use lib.Dec.{eqb}
-use lib.ListN.{length, get_or}
+use lib.ListN.{get_or}
 use Rattle.layout.specs.declared.Field.{Field}
 use Rattle.layout.specs.declared.Kind.{Kind}
 use Rattle.layout.specs.declared.Kind.TheVariants.{Head, Taxpayer, Domicile, Line, Balance, Payment, Receipt, Addressee, Tail, Unknown}
 use Rattle.layout.specs.Sections.{section_at}
-use Rattle.layout.specs.Kinds.{kind_in}
 use Rattle.layout.specs.Fields.{fields_of, value_of, delega_number, amount_at}
 use Rattle.amounts.specs.declared.Sums.{Sums}
 use Rattle.rules.specs.declared.State.{State}
@@ -19,7 +18,7 @@ use Rattle.amounts.specs.Outcomes.{first}
 use Rattle.rules.specs.Stored.{Value, stored_of, stored_balance, section_sums, wrong}
 use Rattle.rules.specs.Checks.{number_fault, code_fault, own_fault}
 use Rattle.rules.specs.Values.{values_in, balance_on, balance_end, payment_on, head_on, tail_on, code_on, amounts_on, values_on}
-use Rattle.rules.specs.Step.{next_of, line_sums, next}
+use Rattle.rules.specs.Step.{next_of, line_sums}
 
 -- nothing is stored
 first_alone : (o : Outcome) → first o Pass ≡ o

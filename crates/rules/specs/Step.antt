@@ -6,7 +6,6 @@ use Rattle.layout.specs.Sections.{section_at}
 use Rattle.layout.specs.Kinds.{of_line, of_taxpayer, kind_in}
 use Rattle.layout.specs.Fields.{amount_at, value_of}
 use Rattle.amounts.specs.declared.Sums.{Sums}
-use Rattle.rules.specs.declared.DelegaSums.{DelegaSums}
 use Rattle.rules.specs.declared.Money.{Money}
 use Rattle.rules.specs.declared.State.{State}
 use Rattle.rules.specs.State.{no_sums, zero_delega}

@@ -1,10 +1,10 @@
 -- Serves inner functions. The checks 8 to 20 and 26 of a record whose numeric fields have been read: the same as in Checks, on the values in the order of the fields.
-use Rattle.std.specs.Prelude.{ℕ, ◌+◌, ◌-◌, Bool, true, false, cond, List, [], ◌∷◌, ◌++◌, map, eqb, length, get_or, replicate}
+use Rattle.std.specs.Prelude.{ℕ, ◌+◌, ◌-◌, Bool, cond, List, ◌++◌, map, eqb, length, get_or, replicate}
 use Rattle.layout.specs.declared.Kind.{Kind}
 use Rattle.layout.specs.declared.Kind.TheVariants.{Head, Taxpayer, Domicile, Line, Balance, Payment, Receipt, Addressee, Tail, Unknown}
 use Rattle.layout.specs.declared.Field.{Field}
 use Rattle.layout.specs.Sections.{section_at}
-use Rattle.layout.specs.Fields.{fields_of, bytes_of, value_of, tax_code, support_name}
+use Rattle.layout.specs.Fields.{bytes_of, value_of, tax_code, support_name}
 use Rattle.amounts.specs.declared.Sums.{Sums}
 use Rattle.rules.specs.declared.State.{State}
 use Rattle.amounts.specs.declared.Outcome.{Outcome}

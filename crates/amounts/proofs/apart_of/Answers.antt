@@ -1,6 +1,5 @@
 use Rattle.amounts.specs.Amounts.{apart}
 use borrow.Author.Tests.{lt-ltb, le-ltb}
-use borrow.Author.Rules.{rules}
 use Rattle.amounts.proofs.apart_of.Goals as goal
 
 pub returns-then-d-c : goal.returns-then-d-c

@@ -1,5 +1,4 @@
 use Rattle.amounts.specs.Amounts.{credit_right}
-use borrow.Author.Rules.{rules}
 use Rattle.amounts.proofs.credit_right.Goals as goal
 
 pub returns-then-section : goal.returns-then-section

@@ -4,7 +4,6 @@ use Rattle.layout.proofs.Table.{near-rule}
 use native.Mathlib.Omega.{arith}
 use Rattle.amounts.specs.Amounts.{line_fault}
 use borrow.Author.Tests.{eq-eqb}
-use borrow.Author.Rules.{rules}
 use Rattle.amounts.proofs.line_fault.Goals as goal
 use Rattle.amounts.proofs.line_fault.Goals.{then-d-eq0+else-c-eq0, else-d-eq0}
 

@@ -2,7 +2,6 @@ use Rattle.amounts.proofs.Lines.{right-no-debit, right-debit}
 use mathlib.Core.Path.{sym, ◌∙◌}
 use Rattle.amounts.specs.Amounts.{line_right}
 use borrow.Author.Tests.{eq-eqb}
-use borrow.Author.Rules.{rules}
 use Rattle.amounts.proofs.line_right.Goals as goal
 use Rattle.amounts.proofs.line_right.Goals.{then-d-eq0+else-c-eq0, else-d-eq0}
 

@@ -1,10 +1,6 @@
 use Rattle.args.proofs.Words.{word-empty, word-long, word_read, read_low, read-high, read-large, read-on, read-end}
-use Rattle.args.specs.Decimal.{fitting, decimal_of}
-use Rattle.text.specs.Numbers.{number_from}
-use lib.ListN.{length, drop}
-use Prim.Native.Nat.{◌-◌, ◌^◌, ◌<◌, ◌≤◌}
 use native.Mathlib.Omega.{arith}
-use mathlib.Core.Path.{◌≡◌, sym, ◌∙◌}
+use mathlib.Core.Path.{sym, ◌∙◌}
 use Rattle.args.proofs.decimal.Goals as goal
 
 pub returns-then-word-eq0 : goal.returns-then-word-eq0

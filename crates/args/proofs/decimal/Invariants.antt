@@ -1,12 +1,10 @@
 -- `args::decimal` meets its contract. The loop's invariant: 64 bits hold `n`, and reading what is left after `n` says what the whole word says.
 -- The measure is the number of bytes left.
-use Rattle.args.proofs.Words.{word-empty, word-long, word_read, read_low, read-high, read-large, read-on, read-end}
 use Rattle.args.specs.Decimal.{fitting, decimal_of}
 use Rattle.text.specs.Numbers.{number_from}
 use lib.ListN.{length, drop}
 use Prim.Native.Nat.{◌-◌, ◌^◌, ◌<◌, ◌≤◌}
-use native.Mathlib.Omega.{arith}
-use mathlib.Core.Path.{◌≡◌, sym, ◌∙◌}
+use mathlib.Core.Path.{◌≡◌}
 use Rattle.args.proofs.decimal.Given as goal
 
 abbrev pub invariant-loop-i : goal.invariant-loop-i

@@ -1,6 +1,5 @@
 -- `ep_accounts::accounts_in` meets its contract.
 use Rattle.ep_accounts.proofs.Rows.{accounts-spoilt, balance-spoilt, balance-met, balance-missed}
-use borrow.Author.Rules.{rules}
 use borrow.Enum.Refused.{opened}
 use Rattle.ep_accounts.proofs.accounts_in.Goals as goal
 

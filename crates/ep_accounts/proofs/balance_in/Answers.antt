@@ -2,7 +2,6 @@
 use native.Mathlib.Omega.{arith}
 use Rattle.ep_accounts.specs.Accounts.{balance_start, balance_in}
 use Rattle.ep_accounts.proofs.Rows.{fifteen-read}
-use borrow.Author.Rules.{rules}
 use Rattle.ep_accounts.proofs.balance_in.Goals as goal
 
 pub returns : goal.returns

@@ -1,7 +1,6 @@
 -- `ep_accounts::debit_of` meets its contract, over the row's number.
 use mathlib.Core.Path.{sym}
 use Rattle.ep_accounts.proofs.Rows.{row-unused, row-used}
-use borrow.Author.Rules.{rules}
 use Rattle.ep_accounts.proofs.debit_of.Goals as goal
 
 pub returns-then-rec-at-eq-BLANK : goal.returns-then-rec-at-eq-BLANK

@@ -1,10 +1,7 @@
-use Prim.Native.Nat.{◌-◌, ◌≤◌}
-use mathlib.Core.Path.{◌≡◌, refl}
-use mathlib.Core.Bool.{true}
+use mathlib.Core.Path.{refl}
 use native.Mathlib.Omega.{arith}
-use borrow.Author.Rules.{rules}
 use borrow.Enum.Refused.{opened}
-use Rattle.ep_accounts.specs.Accounts.{row_count, digits_to, debits_to}
+use Rattle.ep_accounts.specs.Accounts.{digits_to, debits_to}
 use Rattle.ep_accounts.proofs.Rows.{debits-spoilt, sum_fits, digits_more, debits-more, debits-all}
 use Rattle.ep_accounts.proofs.debits_in.Goals as goal
 

@@ -1,11 +1,8 @@
 -- `ep_accounts::debits_in` meets its contract: the rows so far say numbers, and `sum` is what they add up to.
 use Prim.Native.Nat.{◌-◌, ◌≤◌}
-use mathlib.Core.Path.{◌≡◌, refl}
+use mathlib.Core.Path.{◌≡◌}
 use mathlib.Core.Bool.{true}
-use native.Mathlib.Omega.{arith}
-use borrow.Author.Rules.{rules}
 use Rattle.ep_accounts.specs.Accounts.{row_count, digits_to, debits_to}
-use Rattle.ep_accounts.proofs.Rows.{debits-spoilt, sum_fits, digits_more, debits-more, debits-all}
 use Rattle.ep_accounts.proofs.debits_in.Given as goal
 
 abbrev pub invariant-loop-k : goal.invariant-loop-k

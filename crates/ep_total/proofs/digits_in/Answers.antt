@@ -1,9 +1,6 @@
-use Prim.Native.Nat.{◌≤◌, ◌<◌, ◌-◌, ◌^◌}
-use mathlib.Core.Path.{◌≡◌, refl, sym, ◌∙◌}
+use mathlib.Core.Path.{refl, sym, ◌∙◌}
 use native.Mathlib.Omega.{arith}
-use lib.ListN.{length, drop}
 use Rattle.text.proofs.Numerals.{small}
-use Rattle.ep_total.specs.Total.{digits_in}
 use Rattle.ep_total.proofs.Texts.{digits-on, digits-end, digit-more}
 use Rattle.ep_total.proofs.digits_in.Goals as goal
 

@@ -1,11 +1,8 @@
 -- `ep_total::digits_in` meets its contract: reading what is left after `n` says what the whole part says, and `n` has at most `i` digits.
 use Prim.Native.Nat.{◌≤◌, ◌<◌, ◌-◌, ◌^◌}
-use mathlib.Core.Path.{◌≡◌, refl, sym, ◌∙◌}
-use native.Mathlib.Omega.{arith}
+use mathlib.Core.Path.{◌≡◌}
 use lib.ListN.{length, drop}
-use Rattle.text.proofs.Numerals.{small}
 use Rattle.ep_total.specs.Total.{digits_in}
-use Rattle.ep_total.proofs.Texts.{digits-on, digits-end, digit-more}
 use Rattle.ep_total.proofs.digits_in.Given as goal
 
 abbrev pub invariant-loop-i : goal.invariant-loop-i

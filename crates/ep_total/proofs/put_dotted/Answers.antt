@@ -3,7 +3,6 @@ use native.Mathlib.Omega.{arith}
 use mathlib.Core.Path.{sym}
 use Rattle.printing.proofs.Appending.{append-on, append-as}
 use Rattle.ep_total.proofs.Dotted.{dotted-more}
-use borrow.Author.Rules.{rules}
 use Rattle.ep_total.proofs.put_dotted.Goals as goal
 
 pub returns : goal.returns

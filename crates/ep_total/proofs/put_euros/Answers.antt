@@ -3,7 +3,6 @@ use native.Mathlib.Omega.{arith}
 use mathlib.Core.Path.{sym}
 use Rattle.printing.proofs.Appending.{append-as}
 use Rattle.ep_total.proofs.Dotted.{euros-dotted, euros-plain}
-use borrow.Author.Rules.{rules}
 use Rattle.ep_total.proofs.put_euros.Goals as goal
 
 pub returns-then-n-lt1000000000 : goal.returns-then-n-lt1000000000

@@ -1,7 +1,6 @@
 -- `ep_total::put_group` meets its contract: a dot, and a number below 1000 in three digits.
 use native.Mathlib.Omega.{arith}
 use Rattle.printing.proofs.Appending.{append-on, append-number}
-use borrow.Author.Rules.{rules}
 use Rattle.ep_total.proofs.put_group.Goals as goal
 
 pub returns : goal.returns

@@ -3,7 +3,6 @@ use native.Mathlib.Omega.{arith}
 use mathlib.Core.Path.{sym}
 use Rattle.printing.proofs.Appending.{append-on, append-as}
 use Rattle.ep_total.proofs.Dotted.{dotted-small, one-dot}
-use borrow.Author.Rules.{rules}
 use Rattle.ep_total.proofs.put_thousands.Goals as goal
 
 pub returns-then-n-lt1000 : goal.returns-then-n-lt1000

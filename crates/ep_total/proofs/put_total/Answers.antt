@@ -2,7 +2,6 @@
 use native.Mathlib.Omega.{arith}
 use Rattle.printing.proofs.Appending.{append-on, append-number}
 use Rattle.ep_total.specs.Total.{total_text}
-use borrow.Author.Rules.{rules}
 use Rattle.ep_total.proofs.put_total.Goals as goal
 
 pub returns : goal.returns

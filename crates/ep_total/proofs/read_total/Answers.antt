@@ -3,7 +3,6 @@ use mathlib.Core.Path.{sym}
 use native.Mathlib.Omega.{arith}
 use lib.ListN.{length-take}
 use Rattle.ep_total.proofs.Reading.{no_length, too_long, compared, own, other}
-use borrow.Author.Rules.{rules}
 use Rattle.ep_total.proofs.read_total.Goals as goal
 
 pub returns-then-part-ne-TOTAL : goal.returns-then-part-ne-TOTAL

@@ -1,7 +1,6 @@
 -- `ep_total::with_digit` meets its contract.
 use borrow.Author.Tests.{lt-ltb, le-ltb}
 use Rattle.ep_total.specs.Total.{with_digit}
-use borrow.Author.Rules.{rules}
 use Rattle.ep_total.proofs.with_digit.Goals as goal
 
 pub returns-then-b-lt48 : goal.returns-then-b-lt48

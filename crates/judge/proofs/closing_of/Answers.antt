@@ -1,6 +1,5 @@
 use Rattle.judge.specs.Flow.{closing}
 use borrow.Author.Tests.{eq-eqb, ne_eqb}
-use borrow.Author.Rules.{rules}
 use Rattle.judge.proofs.closing_of.Goals as goal
 
 pub returns-then-stage-eq-TAIL : goal.returns-then-stage-eq-TAIL

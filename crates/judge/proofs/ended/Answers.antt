@@ -12,7 +12,6 @@ use Rattle.judge.specs.Flow.{refused_with, after}
 use Rattle.judge.specs.declared.Judgement.{Judgement}
 use Rattle.judge.specs.Ending.{ending}
 use Rattle.rules.specs.declared.State.{State}
-use borrow.Author.Rules.{rules}
 use Rattle.judge.proofs.ended.Goals as goal
 use Rattle.judge.proofs.ended.Goals.{After-char_fault}
 

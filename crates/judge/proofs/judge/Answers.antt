@@ -2,7 +2,6 @@ use Rattle.judge.proofs.Turn.{judged-long, judged-empty, judged-ragged, judged-f
 use mathlib.Core.Path.{sym, ◌∙◌}
 use native.Mathlib.Omega.{arith}
 use Rattle.text.proofs.Bytes.{part_length}
-use borrow.Author.Rules.{rules}
 use Rattle.judge.proofs.judge.Goals as goal
 use Rattle.judge.proofs.judge.Goals.{Else-n-ne0}
 

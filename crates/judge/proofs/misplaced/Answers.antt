@@ -4,7 +4,6 @@ use Rattle.amounts.specs.declared.Outcome.{Outcome}
 use Rattle.judge.specs.Flow.{refused_with, after}
 use Rattle.order.specs.Order.{standing}
 use Rattle.layout.specs.Kinds.{type_in}
-use borrow.Author.Rules.{rules}
 use Rattle.judge.proofs.misplaced.Goals as goal
 use Rattle.judge.proofs.misplaced.Goals.{After-standing_of}
 

@@ -1,5 +1,5 @@
 use mathlib.Core.Path.{◌≡◌, refl, sym, ap, ◌∙◌}
-use Prim.Native.Nat.{ℕ, ◌+◌, ◌-◌, ◌≤◌}
+use Prim.Native.Nat.{ℕ, ◌+◌, ◌≤◌}
 use native.Mathlib.Omega.{arith}
 use mathlib.Core.List.{List}
 use lib.ListN.{length, drop, get_or}
@@ -13,8 +13,6 @@ use Rattle.layout.specs.declared.Kind.{Kind}
 use Rattle.layout.specs.Fields.{nowhere, listed, fields_of, bytes_of}
 use Rattle.text.specs.declared.Digits.{Digits}
 use Rattle.text.specs.Numbers.{number_of}
-use borrow.Author.Rules.{rules}
-
 use borrow.Enum.Refused.{opened}
 use Rattle.judge.proofs.misread.Goals as goal
 use Rattle.judge.proofs.misread.Goals.{After-read_field-said, At-loop-f, In-loop-f}

@@ -1,20 +1,9 @@
-use mathlib.Core.Path.{◌≡◌, refl, sym, ap, ◌∙◌}
-use Prim.Native.Nat.{ℕ, ◌+◌, ◌-◌, ◌≤◌}
-use native.Mathlib.Omega.{arith}
-use mathlib.Core.List.{List}
-use lib.ListN.{length, drop, get_or}
-use Rattle.records.specs.Reading.{non_digit_at}
-use Rattle.records.proofs.FieldByField.{inside, in_four, field_is, field-within, non-digit-near, bad-on, bad-here, bad-end}
-use Rattle.judge.specs.Flow.{refused_with}
+use mathlib.Core.Path.{◌≡◌}
+use Prim.Native.Nat.{◌-◌, ◌≤◌}
+use lib.ListN.{length, drop}
 use Rattle.rules.specs.Checks.{bad_fields}
-use Rattle.layout.specs.declared.Field.{Field}
-use Rattle.layout.specs.declared.Fields.{Fields}
 use Rattle.layout.specs.declared.Kind.{Kind}
-use Rattle.layout.specs.Fields.{nowhere, listed, fields_of, bytes_of}
-use Rattle.text.specs.Numbers.{number_of}
-use borrow.Author.Rules.{rules}
-
-use borrow.Enum.Refused.{opened}
+use Rattle.layout.specs.Fields.{listed, fields_of}
 use Rattle.judge.proofs.misread.Given as goal
 
 abbrev pub invariant-loop-f : goal.invariant-loop-f

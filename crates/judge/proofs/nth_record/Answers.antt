@@ -4,7 +4,6 @@ use mathlib.Core.Path.{◌≡◌, refl, sym, ap, ◌∙◌}
 use Prim.Native.Nat.{ℕ, ◌-◌, ◌*◌}
 use native.Mathlib.Omega.{arith}
 use Rattle.judge.proofs.Records.{none_first, none-beyond, record-there}
-use borrow.Author.Rules.{rules}
 use Rattle.judge.proofs.nth_record.Goals as goal
 
 pub returns-then-k-eq0 : goal.returns-then-k-eq0

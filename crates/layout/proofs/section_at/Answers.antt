@@ -2,8 +2,7 @@ use Prim.Native.Nat.{◌≤◌}
 use Rattle.layout.specs.Sections.{section_at, sections}
 use lib.ListN.{get_or-eq_default}
 use native.Mathlib.Omega.{arith}
-use mathlib.Core.Path.{◌≡◌, sym}
-use borrow.Author.Rules.{rules}
+use mathlib.Core.Path.{sym}
 use Rattle.layout.proofs.section_at.Goals as goal
 
 pub returns-then-s-eq0 : goal.returns-then-s-eq0

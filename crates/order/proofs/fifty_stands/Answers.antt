@@ -1,5 +1,4 @@
-use Rattle.order.proofs.Standing.{or-false, forty, fifty}
-use borrow.Author.Rules.{rules}
+use Rattle.order.proofs.Standing.{fifty}
 use Rattle.order.proofs.fifty_stands.Goals as goal
 
 pub returns-then-may_stand : goal.returns-then-may_stand

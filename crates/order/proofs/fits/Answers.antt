@@ -1,6 +1,5 @@
 use Rattle.order.specs.Order.{fitting}
 use Rattle.order.proofs.Fitting.{turned}
-use borrow.Author.Rules.{rules}
 use Rattle.order.proofs.fits.Goals as goal
 
 pub returns-then-may_stand : goal.returns-then-may_stand

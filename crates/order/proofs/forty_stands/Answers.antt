@@ -1,5 +1,4 @@
-use Rattle.order.proofs.Standing.{or-false, forty, fifty}
-use borrow.Author.Rules.{rules}
+use Rattle.order.proofs.Standing.{forty}
 use Rattle.order.proofs.forty_stands.Goals as goal
 
 pub returns-then-section_stands : goal.returns-then-section_stands

@@ -1,7 +1,6 @@
 -- `order::is_full` meets its contract: a record that is no line is never one line too many.
 use Rattle.layout.proofs.OtherKinds.{no_line}
 use Rattle.order.specs.Order.{full}
-use borrow.Author.Rules.{rules}
 use borrow.Enum.Refused.{opened}
 use mathlib.Core.Path.{sym}
 use Rattle.order.proofs.is_full.Goals as goal

@@ -1,6 +1,5 @@
-use Rattle.text.specs.Among.{among}
-use Rattle.order.specs.Order.{stands, section_stands, type_stands, full, standing}
-use borrow.Author.Tests.{eq-eqb, ne_eqb, lt-ltb, le-ltb, le-leb, lt-leb}
+use Rattle.order.specs.Order.{stands}
+use borrow.Author.Tests.{eq-eqb, ne_eqb, lt-ltb, le-ltb}
 use Rattle.order.proofs.line_stands.Goals as goal
 
 pub returns-then-phase-eq-DOMICILE : goal.returns-then-phase-eq-DOMICILE

@@ -1,8 +1,6 @@
-use mathlib.Core.Path.{◌∙◌}
 use Rattle.text.specs.Among.{among}
-use Rattle.order.specs.Order.{stands, section_stands, type_stands, full, standing}
-use borrow.Author.Tests.{eq-eqb, ne_eqb, lt-ltb, le-ltb, le-leb, lt-leb}
-use borrow.Author.Rules.{rules}
+use Rattle.order.specs.Order.{stands}
+use borrow.Author.Tests.{eq-eqb, ne_eqb}
 use Rattle.order.proofs.may_stand.Goals as goal
 
 pub returns-in-Head : goal.returns-in-Head

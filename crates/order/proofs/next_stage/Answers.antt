@@ -1,4 +1,3 @@
-use borrow.Author.Rules.{rules}
 use Rattle.order.proofs.next_stage.Goals as goal
 
 pub returns-in-Head : goal.returns-in-Head

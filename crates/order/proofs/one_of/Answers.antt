@@ -1,7 +1,6 @@
-use Rattle.order.proofs.Standing.{or-false, forty, fifty}
+use Rattle.order.proofs.Standing.{or-false}
 use Rattle.text.specs.Among.{among}
-use Rattle.order.specs.Order.{stands, section_stands, type_stands, full, standing}
-use borrow.Author.Tests.{eq-eqb, ne_eqb, lt-ltb, le-ltb, le-leb, lt-leb}
+use borrow.Author.Tests.{eq-eqb, ne_eqb}
 use Rattle.order.proofs.one_of.Goals as goal
 
 pub returns-then-x-a : goal.returns-then-x-a

@@ -1,6 +1,4 @@
-use Rattle.text.specs.Among.{among}
-use Rattle.order.specs.Order.{stands, section_stands, type_stands, full, standing}
-use borrow.Author.Rules.{rules}
+use Rattle.order.specs.Order.{section_stands}
 use Rattle.order.proofs.section_stands.Goals as goal
 
 pub returns-then-may_stand : goal.returns-then-may_stand

@@ -1,6 +1,4 @@
-use Rattle.text.specs.Among.{among}
-use Rattle.order.specs.Order.{stands, section_stands, type_stands, full, standing}
-use borrow.Author.Rules.{rules}
+use Rattle.order.specs.Order.{standing}
 use Rattle.order.proofs.standing_of.Goals as goal
 
 pub returns-then-is_full : goal.returns-then-is_full

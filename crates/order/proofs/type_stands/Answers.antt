@@ -1,7 +1,5 @@
-use Rattle.text.specs.Among.{among}
-use Rattle.order.specs.Order.{stands, section_stands, type_stands, full, standing}
-use Rattle.order.proofs.Standing.{or-false, forty, fifty}
-use borrow.Author.Rules.{rules}
+use Rattle.order.specs.Order.{type_stands}
+use Rattle.order.proofs.Standing.{or-false}
 use Rattle.order.proofs.type_stands.Goals as goal
 
 pub returns-in-F4 : goal.returns-in-F4

@@ -1,5 +1,4 @@
 -- `printing::put_byte` meets its contract: a byte stored is a text of one byte.
-use borrow.Author.Rules.{rules}
 use Rattle.printing.proofs.Appending.{append-byte}
 use Rattle.printing.proofs.put_byte.Goals as goal
 

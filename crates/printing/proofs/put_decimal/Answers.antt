@@ -1,6 +1,5 @@
 -- `printing::put_decimal` meets its contract: a number of 64 bits has at most twenty digits, and it is put in as many as it has.
 use native.Mathlib.Omega.{arith}
-use borrow.Author.Rules.{rules}
 use Rattle.printing.proofs.Widths.{width-twenty}
 use Rattle.printing.proofs.Appending.{append-decimal}
 use Rattle.printing.proofs.put_decimal.Goals as goal

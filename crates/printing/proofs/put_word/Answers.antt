@@ -1,7 +1,6 @@
 -- `printing::put_word` meets its contract: the word fits, so that it is put whole.
 use mathlib.Core.Path.{refl, ◌∙◌}
 use native.Mathlib.Omega.{arith}
-use borrow.Author.Rules.{rules}
 use Rattle.text.proofs.Fits.{part-fits, part-written}
 use Rattle.printing.proofs.Appending.{append-put}
 use Rattle.printing.proofs.put_word.Goals as goal

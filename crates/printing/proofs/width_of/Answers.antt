@@ -1,7 +1,4 @@
-use Prim.Native.Nat.{◌+◌}
-use mathlib.Core.Path.{◌≡◌}
 use native.Mathlib.Omega.{arith}
-use Rattle.printing.specs.Decimal.{width_of}
 use Rattle.printing.proofs.Widths.{width_one, width-more, width_some, width-twenty}
 use Rattle.printing.proofs.width_of.Goals as goal
 

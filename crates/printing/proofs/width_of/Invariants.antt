@@ -2,9 +2,7 @@
 -- than the digits of the number. The measure is what is left of the number.
 use Prim.Native.Nat.{◌+◌}
 use mathlib.Core.Path.{◌≡◌}
-use native.Mathlib.Omega.{arith}
 use Rattle.printing.specs.Decimal.{width_of}
-use Rattle.printing.proofs.Widths.{width_one, width-more, width_some, width-twenty}
 use Rattle.printing.proofs.width_of.Given as goal
 
 abbrev pub invariant-loop-left : goal.invariant-loop-left

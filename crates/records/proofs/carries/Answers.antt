@@ -1,7 +1,6 @@
 use lib.Dec.{eqb}
 use Prim.Native.Nat.{ℕ}
 use mathlib.Core.Path.{ap}
-use borrow.Author.Rules.{rules}
 use Rattle.records.proofs.carries.Goals as goal
 
 pub returns : goal.returns

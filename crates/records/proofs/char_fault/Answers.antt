@@ -1,7 +1,6 @@
 use Rattle.text.proofs.Allowed.{bad-within}
 use native.Mathlib.Omega.{arith}
 use mathlib.Core.Path.{sym, ◌∙◌}
-use borrow.Author.Rules.{rules}
 use Rattle.records.proofs.char_fault.Goals as goal
 
 pub overflow_add-result : goal.overflow_add-result

@@ -1,14 +1,8 @@
-use mathlib.Core.Path.{◌≡◌, sym, ap, ◌∙◌}
+use mathlib.Core.Path.{◌≡◌}
 use mathlib.Core.Bool.{true}
-use Prim.Native.Nat.{ℕ, ◌+◌, ◌-◌, ◌*◌, ◌/◌, ◌<◌, ◌≤◌}
-use native.Mathlib.Omega.{arith}
-use mathlib.Core.List.{List}
-use mathlib.Core.Logic.{⊎_elim}
+use Prim.Native.Nat.{◌+◌, ◌-◌, ◌*◌, ◌/◌, ◌<◌, ◌≤◌}
 use lib.ListN.{length, take, drop}
-use lib.Seq.{drop-drop}
-use Rattle.text.specs.Characters.{first_bad_from, all_allowed}
-use Rattle.text.proofs.Allowed.{allowed-more}
-use borrow.Author.Rules.{rules}
+use Rattle.text.specs.Characters.{all_allowed}
 use Rattle.records.proofs.clean_records.Given as goal
 
 abbrev pub invariant-loop-k : goal.invariant-loop-k

@@ -1,7 +1,6 @@
 use Rattle.layout.specs.Forms.{form_of}
 use Rattle.layout.specs.declared.Form.{Form}
 use mathlib.Core.Path.{ap}
-use borrow.Author.Rules.{rules}
 use Rattle.records.proofs.kind_in.Goals as goal
 
 pub returns : goal.returns

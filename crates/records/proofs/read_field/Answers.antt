@@ -3,7 +3,6 @@ use lib.ListN.{drop, length-take}
 use Prim.Native.Nat.{◌-◌}
 use native.Mathlib.Omega.{arith}
 use mathlib.Core.Path.{◌∙◌}
-use borrow.Author.Rules.{rules}
 use Rattle.records.proofs.read_field.Goals as goal
 
 pub returns : goal.returns

@@ -1,7 +1,6 @@
 use mathlib.Core.Path.{sym, ◌∙◌}
 use native.Mathlib.Omega.{arith}
 use Rattle.layout.proofs.Spelled.{type-word}
-use borrow.Author.Rules.{rules}
 use Rattle.records.proofs.type_in.Goals as goal
 
 pub returns : goal.returns

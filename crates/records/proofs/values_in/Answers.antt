@@ -1,5 +1,5 @@
 use mathlib.Core.Path.{◌≡◌, refl, sym, ap, ◌∙◌}
-use Prim.Native.Nat.{ℕ, ◌+◌, ◌-◌, ◌≤◌}
+use Prim.Native.Nat.{ℕ, ◌-◌, ◌≤◌}
 use native.Mathlib.Omega.{arith}
 use mathlib.Core.List.{List, ◌++◌, map}
 use lib.ListN.{length, take, drop, get_or, replicate}
@@ -12,8 +12,6 @@ use Rattle.layout.specs.Fields.{nowhere, listed, fields_of, bytes_of, value_of}
 use Rattle.text.specs.declared.Digits.{Digits}
 use Rattle.text.specs.Numbers.{number_of, amount_of}
 use Rattle.records.specs.Reading.{non_digit_at, values_read}
-use borrow.Author.Rules.{rules}
-
 use borrow.Enum.Refused.{opened}
 use Rattle.records.proofs.values_in.Goals as goal
 use Rattle.records.proofs.values_in.Goals.{After-loop-f, After-read_field-said, At-loop-f, In-loop-f}

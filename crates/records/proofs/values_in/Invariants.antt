@@ -1,19 +1,10 @@
-use mathlib.Core.Path.{◌≡◌, refl, sym, ap, ◌∙◌}
-use Prim.Native.Nat.{ℕ, ◌+◌, ◌-◌, ◌≤◌}
-use native.Mathlib.Omega.{arith}
-use mathlib.Core.List.{List, ◌++◌, map}
-use lib.ListN.{length, take, drop, get_or, replicate}
-use Rattle.records.proofs.FieldByField.{inside, in_four, field_is, field-within, non-digit-near, bad-on, bad-here, bad-end, read-on, read-end}
+use mathlib.Core.Path.{◌≡◌}
+use Prim.Native.Nat.{◌-◌, ◌≤◌}
+use mathlib.Core.List.{◌++◌, map}
+use lib.ListN.{length, take, drop, replicate}
 use Rattle.rules.specs.Checks.{bad_fields}
-use Rattle.layout.specs.declared.Field.{Field}
-use Rattle.layout.specs.declared.Fields.{Fields}
 use Rattle.layout.specs.declared.Kind.{Kind}
-use Rattle.layout.specs.Fields.{nowhere, listed, fields_of, bytes_of, value_of}
-use Rattle.text.specs.Numbers.{number_of, amount_of}
-use Rattle.records.specs.Reading.{non_digit_at, values_read}
-use borrow.Author.Rules.{rules}
-
-use borrow.Enum.Refused.{opened}
+use Rattle.layout.specs.Fields.{listed, fields_of, value_of}
 use Rattle.records.proofs.values_in.Given as goal
 
 abbrev pub invariant-loop-f : goal.invariant-loop-f

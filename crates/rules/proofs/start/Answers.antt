@@ -1,5 +1,4 @@
 use Rattle.rules.specs.State.{start_state}
-use borrow.Author.Rules.{rules}
 use Rattle.rules.proofs.start.Goals as goal
 
 pub returns : goal.returns

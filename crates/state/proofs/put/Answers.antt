@@ -1,9 +1,6 @@
-use Prim.Native.Nat.{◌-◌, ◌≤◌}
-use mathlib.Core.Path.{◌≡◌, refl, sym, ◌∙◌}
+use mathlib.Core.Path.{refl, sym, ◌∙◌}
 use native.Mathlib.Omega.{arith}
-use lib.ListN.{length, drop, length-set}
-use Rattle.state.specs.Numbers.{overlay}
-use Rattle.text.specs.Placing.{put_at}
+use lib.ListN.{length-set}
 use Rattle.state.proofs.Rooms.{overlay-put, put_on, put-end}
 use Rattle.state.proofs.put.Goals as goal
 

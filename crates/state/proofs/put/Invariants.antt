@@ -1,12 +1,10 @@
 -- `state::put` meets its contract. The loop's invariant: putting the numbers that are left into the room as it is now gives what laying
 -- all of them over the room as it came gives. The measure is the number of numbers left.
 use Prim.Native.Nat.{◌-◌, ◌≤◌}
-use mathlib.Core.Path.{◌≡◌, refl, sym, ◌∙◌}
-use native.Mathlib.Omega.{arith}
-use lib.ListN.{length, drop, length-set}
+use mathlib.Core.Path.{◌≡◌}
+use lib.ListN.{length, drop}
 use Rattle.state.specs.Numbers.{overlay}
 use Rattle.text.specs.Placing.{put_at}
-use Rattle.state.proofs.Rooms.{overlay-put, put_on, put-end}
 use Rattle.state.proofs.put.Given as goal
 
 abbrev pub invariant-loop-i : goal.invariant-loop-i

@@ -1,7 +1,6 @@
 use mathlib.Core.Path.{sym, ◌∙◌}
 use native.Mathlib.Omega.{arith}
 use Rattle.state.proofs.Rooms.{none_in, some_in}
-use borrow.Author.Rules.{rules}
 use Rattle.state.proofs.state_in.Goals as goal
 
 pub returns-then-kept-eq0 : goal.returns-then-kept-eq0

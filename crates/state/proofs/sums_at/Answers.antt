@@ -1,6 +1,5 @@
 use Rattle.state.specs.Numbers.{sums_at}
 use mathlib.Core.Path.{refl}
-use borrow.Author.Rules.{rules}
 use Rattle.state.proofs.sums_at.Goals as goal
 
 pub returns : goal.returns

@@ -1,5 +1,4 @@
 use Rattle.taxcode.specs.TaxCodes.{code_right}
-use borrow.Author.Rules.{rules}
 use Rattle.taxcode.proofs.code_right.Goals as goal
 
 pub returns-then-person_right : goal.returns-then-person_right

@@ -1,11 +1,7 @@
-use Prim.Native.Nat.{◌≤◌, ◌-◌}
-use mathlib.Core.Path.{◌≡◌, refl, sym, ◌∙◌}
+use mathlib.Core.Path.{refl, sym, ◌∙◌}
 use mathlib.Core.Bool.{Bool}
 use native.Mathlib.Omega.{arith}
-use borrow.Author.Rules.{rules}
-use lib.ListN.{length}
-use Rattle.text.specs.Characters.{all_allowed}
-use Rattle.text.proofs.Extremes.{passed, left, passed_start, passed_on, passed-low, passed-end, left_end}
+use Rattle.text.proofs.Extremes.{passed_start, passed_on, passed-low, passed-end, left_end}
 use Rattle.text.proofs.all_allowed.Goals as goal
 
 pub loop-i-init : goal.loop-i-init

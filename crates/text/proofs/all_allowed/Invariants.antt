@@ -1,13 +1,10 @@
 -- `text::all_allowed` meets its contract. The loop's invariant: the whole part is allowed where the least byte so far is at least 32, the
 -- greatest at most 126, and what is left is allowed. The measure is the number of bytes left.
 use Prim.Native.Nat.{◌≤◌, ◌-◌}
-use mathlib.Core.Path.{◌≡◌, refl, sym, ◌∙◌}
-use mathlib.Core.Bool.{Bool}
-use native.Mathlib.Omega.{arith}
-use borrow.Author.Rules.{rules}
+use mathlib.Core.Path.{◌≡◌}
 use lib.ListN.{length}
 use Rattle.text.specs.Characters.{all_allowed}
-use Rattle.text.proofs.Extremes.{passed, left, passed_start, passed_on, passed-low, passed-end, left_end}
+use Rattle.text.proofs.Extremes.{passed, left}
 use Rattle.text.proofs.all_allowed.Given as goal
 
 abbrev pub invariant-loop-i : goal.invariant-loop-i

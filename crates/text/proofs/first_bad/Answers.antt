@@ -1,6 +1,5 @@
 -- `text::first_bad` meets its contract: the pass over all bytes says whether a search is needed.
 use mathlib.Core.Path.{sym, ◌∙◌}
-use borrow.Author.Rules.{rules}
 use Rattle.text.proofs.Allowed.{all-is-allowed}
 use Rattle.text.proofs.first_bad.Goals as goal
 

@@ -4,7 +4,6 @@ use mathlib.Core.Path.{sym, ◌∙◌}
 use native.Mathlib.Omega.{arith}
 use lib.ListN.{length}
 use Rattle.text.proofs.Allowed.{all_rest}
-use borrow.Author.Rules.{rules}
 use Rattle.text.proofs.long_allowed.Goals as goal
 
 pub returns-then-quarters_allowed : goal.returns-then-quarters_allowed

@@ -1,8 +1,5 @@
-use Prim.Native.Nat.{◌≤◌, ◌<◌, ◌-◌, ◌^◌}
-use mathlib.Core.Path.{◌≡◌, sym, ◌∙◌}
+use mathlib.Core.Path.{sym, ◌∙◌}
 use native.Mathlib.Omega.{arith}
-use lib.ListN.{length, drop}
-use Rattle.text.specs.Numbers.{read_number, number_from}
 use Rattle.text.proofs.Numerals.{number-low, number-high, number-on, number-end, small, more, read-is-number, read-too-long}
 use Rattle.text.proofs.number.Goals as goal
 

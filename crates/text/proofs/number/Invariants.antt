@@ -1,11 +1,9 @@
 -- `text::number` meets its contract. The loop's invariant: `n` has at most `i` digits, and reading what is left after `n` says what
 -- the whole part says. The measure is the number of bytes left.
 use Prim.Native.Nat.{◌≤◌, ◌<◌, ◌-◌, ◌^◌}
-use mathlib.Core.Path.{◌≡◌, sym, ◌∙◌}
-use native.Mathlib.Omega.{arith}
+use mathlib.Core.Path.{◌≡◌}
 use lib.ListN.{length, drop}
 use Rattle.text.specs.Numbers.{read_number, number_from}
-use Rattle.text.proofs.Numerals.{number-low, number-high, number-on, number-end, small, more, read-is-number, read-too-long}
 use Rattle.text.proofs.number.Given as goal
 
 abbrev pub invariant-loop-i : goal.invariant-loop-i

@@ -1,6 +1,5 @@
 -- `text::number_fits` meets its contract: the room is tested, and then the digits.
 use mathlib.Core.Path.{sym, ◌∙◌}
-use borrow.Author.Rules.{rules}
 use Rattle.text.proofs.Fits.{number-by-digits, number-unfit}
 use Rattle.text.proofs.number_fits.Goals as goal
 

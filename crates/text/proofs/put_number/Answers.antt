@@ -1,6 +1,5 @@
 -- `text::put_number` meets its contract: the test says whether the number fits, and only then are its digits written.
 use mathlib.Core.Path.{sym, ◌∙◌}
-use borrow.Author.Rules.{rules}
 use Rattle.text.proofs.Fits.{number-ends, number-written, number-kept}
 use Rattle.text.proofs.put_number.Goals as goal
 

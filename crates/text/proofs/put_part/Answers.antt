@@ -1,6 +1,5 @@
 -- `text::put_part` meets its contract: the test says whether the part fits, and only then are its bytes written.
 use mathlib.Core.Path.{sym, ◌∙◌}
-use borrow.Author.Rules.{rules}
 use Rattle.text.proofs.Fits.{part-ends, part-written, part-kept}
 use Rattle.text.proofs.put_part.Goals as goal
 

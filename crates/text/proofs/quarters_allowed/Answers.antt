@@ -1,10 +1,7 @@
-use Prim.Native.Nat.{◌≤◌, ◌-◌, ◌*◌}
-use mathlib.Core.Path.{◌≡◌, sym, ◌∙◌}
+use mathlib.Core.Path.{sym, ◌∙◌}
 use native.Mathlib.Omega.{arith}
-use borrow.Author.Rules.{rules}
-use lib.ListN.{length, take, length-take, length-drop}
-use Rattle.text.specs.Characters.{all_allowed}
-use Rattle.text.proofs.Extremes.{passed, left4, passed-start4, passed-on4, passed-low, passed-end, left4-end}
+use lib.ListN.{length-take, length-drop}
+use Rattle.text.proofs.Extremes.{passed-start4, passed-on4, passed-low, passed-end, left4-end}
 use Rattle.text.proofs.quarters_allowed.Goals as goal
 
 pub slice_bounds-a-end : goal.slice_bounds-a-end

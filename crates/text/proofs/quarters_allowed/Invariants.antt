@@ -1,12 +1,10 @@
 -- `text::quarters_allowed` meets its contract. The loop's invariant: the four quarters are allowed where the least byte so far is at least 32,
 -- the greatest at most 126, and what is left of each quarter is allowed. The measure is the number of turns left.
 use Prim.Native.Nat.{◌≤◌, ◌-◌, ◌*◌}
-use mathlib.Core.Path.{◌≡◌, sym, ◌∙◌}
-use native.Mathlib.Omega.{arith}
-use borrow.Author.Rules.{rules}
-use lib.ListN.{length, take, length-take, length-drop}
+use mathlib.Core.Path.{◌≡◌}
+use lib.ListN.{length, take}
 use Rattle.text.specs.Characters.{all_allowed}
-use Rattle.text.proofs.Extremes.{passed, left4, passed-start4, passed-on4, passed-low, passed-end, left4-end}
+use Rattle.text.proofs.Extremes.{passed, left4}
 use Rattle.text.proofs.quarters_allowed.Given as goal
 
 abbrev pub invariant-loop-i : goal.invariant-loop-i

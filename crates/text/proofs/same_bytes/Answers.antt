@@ -1,9 +1,6 @@
-use Prim.Native.Nat.{◌≤◌, ◌-◌}
-use lib.ListN.{length, drop}
-use Rattle.text.specs.Same.{same_bytes}
 use Rattle.text.proofs.Same.{same_not, same-on, same_end, same-lengths}
 use native.Mathlib.Omega.{arith}
-use mathlib.Core.Path.{◌≡◌, refl, sym, ◌∙◌}
+use mathlib.Core.Path.{refl, sym, ◌∙◌}
 use Rattle.text.proofs.same_bytes.Goals as goal
 
 pub returns-then-a-b : goal.returns-then-a-b

@@ -1,8 +1,5 @@
-use Prim.Native.Nat.{◌≤◌, ◌-◌}
-use mathlib.Core.Path.{◌≡◌, refl, sym, ◌∙◌}
+use mathlib.Core.Path.{refl, sym, ◌∙◌}
 use native.Mathlib.Omega.{arith}
-use lib.ListN.{length, drop}
-use Rattle.text.specs.Characters.{first_bad, first_bad_from}
 use Rattle.text.proofs.Allowed.{bad-low, bad-high, bad-on, bad-end}
 use Rattle.text.proofs.search_bad.Goals as goal
 

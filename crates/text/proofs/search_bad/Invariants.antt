@@ -1,11 +1,9 @@
 -- `text::search_bad` meets its contract. The loop's invariant: the first bad byte of what is left is that of the whole part.
 -- The measure is the number of bytes left.
 use Prim.Native.Nat.{◌≤◌, ◌-◌}
-use mathlib.Core.Path.{◌≡◌, refl, sym, ◌∙◌}
-use native.Mathlib.Omega.{arith}
+use mathlib.Core.Path.{◌≡◌}
 use lib.ListN.{length, drop}
 use Rattle.text.specs.Characters.{first_bad, first_bad_from}
-use Rattle.text.proofs.Allowed.{bad-low, bad-high, bad-on, bad-end}
 use Rattle.text.proofs.search_bad.Given as goal
 
 abbrev pub invariant-loop-i : goal.invariant-loop-i

@@ -1,7 +1,4 @@
-use Prim.Native.Nat.{◌^◌}
-use mathlib.Core.Path.{◌≡◌, refl, sym, ◌∙◌}
-use native.Mathlib.Omega.{arith}
-use lib.Dec.{ltb}
+use mathlib.Core.Path.{refl, sym, ◌∙◌}
 use Rattle.text.proofs.Numerals.{spelled-on, spelled-end}
 use Rattle.text.proofs.spelled.Goals as goal
 

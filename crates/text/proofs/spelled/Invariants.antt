@@ -1,10 +1,8 @@
 -- `text::spelled` meets its contract. The loop's invariant: what is left of the number has at most `i` digits where the number has
 -- at most `width`. The measure is `i`.
 use Prim.Native.Nat.{◌^◌}
-use mathlib.Core.Path.{◌≡◌, refl, sym, ◌∙◌}
-use native.Mathlib.Omega.{arith}
+use mathlib.Core.Path.{◌≡◌}
 use lib.Dec.{ltb}
-use Rattle.text.proofs.Numerals.{spelled-on, spelled-end}
 use Rattle.text.proofs.spelled.Given as goal
 
 abbrev pub invariant-loop-i : goal.invariant-loop-i

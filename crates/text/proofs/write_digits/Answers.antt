@@ -1,9 +1,6 @@
-use Prim.Native.Nat.{◌≤◌}
-use mathlib.Core.Path.{◌≡◌, refl, sym, ◌∙◌}
+use mathlib.Core.Path.{refl, sym, ◌∙◌}
 use native.Mathlib.Omega.{arith}
-use lib.ListN.{length, length-set}
-use Rattle.text.specs.Numbers.{digits_of}
-use Rattle.text.specs.Placing.{put_at}
+use lib.ListN.{length-set}
 use Rattle.text.proofs.Writing.{digits-on, digits-end}
 use Rattle.text.proofs.write_digits.Goals as goal
 

@@ -1,12 +1,10 @@
 -- `text::write_digits` meets its contract. The loop's invariant: putting the digits that are left into the room as it is now gives what
 -- putting all of them into the room as it came gives. The measure is the number of digits left.
 use Prim.Native.Nat.{◌≤◌}
-use mathlib.Core.Path.{◌≡◌, refl, sym, ◌∙◌}
-use native.Mathlib.Omega.{arith}
-use lib.ListN.{length, length-set}
+use mathlib.Core.Path.{◌≡◌}
+use lib.ListN.{length}
 use Rattle.text.specs.Numbers.{digits_of}
 use Rattle.text.specs.Placing.{put_at}
-use Rattle.text.proofs.Writing.{digits-on, digits-end}
 use Rattle.text.proofs.write_digits.Given as goal
 
 abbrev pub invariant-loop-i : goal.invariant-loop-i

@@ -1,9 +1,7 @@
-use Prim.Native.Nat.{◌+◌, ◌-◌, ◌≤◌}
-use mathlib.Core.Path.{◌≡◌, refl, sym, ◌∙◌}
+use mathlib.Core.Path.{refl, sym, ◌∙◌}
 use native.Mathlib.Nat.{add-zero}
 use native.Mathlib.Omega.{arith}
-use lib.ListN.{length, drop, length-set}
-use Rattle.text.specs.Placing.{put_at}
+use lib.ListN.{length-set}
 use Rattle.text.proofs.Writing.{part-on, part_end}
 use Rattle.text.proofs.write_part.Goals as goal
 

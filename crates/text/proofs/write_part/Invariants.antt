@@ -1,12 +1,9 @@
 -- `text::write_part` meets its contract. The loop's invariant: putting the bytes that are left into the room as it is now gives what
 -- putting all of them into the room as it came gives. The measure is the number of bytes left.
 use Prim.Native.Nat.{◌+◌, ◌-◌, ◌≤◌}
-use mathlib.Core.Path.{◌≡◌, refl, sym, ◌∙◌}
-use native.Mathlib.Nat.{add-zero}
-use native.Mathlib.Omega.{arith}
-use lib.ListN.{length, drop, length-set}
+use mathlib.Core.Path.{◌≡◌}
+use lib.ListN.{length, drop}
 use Rattle.text.specs.Placing.{put_at}
-use Rattle.text.proofs.Writing.{part-on, part_end}
 use Rattle.text.proofs.write_part.Given as goal
 
 abbrev pub invariant-loop-i : goal.invariant-loop-i

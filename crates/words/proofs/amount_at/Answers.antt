@@ -1,5 +1,4 @@
 -- `words::amount_at` meets its contract: the top bits of characters are clear.
-use borrow.Author.Rules.{rules}
 use Rattle.words.specs.Words.{Halves}
 use Rattle.words.proofs.Fields.{allowed-at-most, at-most-part}
 use Rattle.words.proofs.FifteenDigits.{halves-at}

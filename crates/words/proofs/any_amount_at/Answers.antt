@@ -2,7 +2,6 @@
 -- The bytes of a part are bytes.
 use mathlib.Core.Path.{sym, ap, ◌∙◌}
 use native.Mathlib.Omega.{arith}
-use borrow.Author.Rules.{rules}
 use Rattle.words.specs.Words.{AtMost, Halves}
 use Rattle.words.proofs.Fields.{at-most-each}
 use Rattle.words.proofs.TopBits.{tops_of}

@@ -1,7 +1,6 @@
 -- `words::fifteen_in` meets its contract: zeros in front, or two words of eight that share the eighth character.
 use mathlib.Core.Path.{◌≡◌, sym, ◌∙◌}
 use native.Mathlib.Omega.{arith}
-use borrow.Author.Rules.{rules}
 use lib.ListN.{take, drop}
 use Rattle.text.specs.Numbers.{number_of}
 use Rattle.words.specs.declared.Fifteen.TheVariants as Said

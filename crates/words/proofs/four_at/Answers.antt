@@ -1,7 +1,6 @@
 -- `words::four_at` meets its contract: four bytes are below 256 each, so that their sum fits.
 use Prim.Native.Nat.{◌+◌}
 use native.Mathlib.Omega.{arith}
-use borrow.Author.Rules.{rules}
 use Rattle.words.proofs.Fields.{four-word}
 use Rattle.words.proofs.four_at.Goals as goal
 

@@ -1,6 +1,5 @@
 -- `words::number_word` meets its contract by the law of the same name.
 use mathlib.Core.Path.{sym}
-use borrow.Author.Rules.{rules}
 use Rattle.words.proofs.Fields.{number_word}
 use Rattle.words.proofs.number_word.Goals as goal
 

@@ -1,7 +1,6 @@
 -- `words::pair_at` meets its contract: two bytes are below 256 each, so that their sum fits.
 use Prim.Native.Nat.{◌+◌}
 use native.Mathlib.Omega.{arith}
-use borrow.Author.Rules.{rules}
 use Rattle.words.proofs.pair_at.Goals as goal
 
 pub overflow_cast-result : goal.overflow_cast-result

@@ -1,6 +1,5 @@
 -- `words::word_at` meets its contract: a word is two words of four bytes.
 use native.Mathlib.Omega.{arith}
-use borrow.Author.Rules.{rules}
 use Rattle.words.proofs.Fields.{eight-word}
 use Rattle.words.proofs.word_at.Goals as goal
 

@@ -1,5 +1,4 @@
 use Rattle.amounts.specs.Dates.{day_exists, date_right}
-use borrow.Author.Rules.{rules}
 use Rattle.amounts.proofs.dates.date_right.Goals as goal
 
 pub returns : goal.returns

@@ -5,7 +5,6 @@ use mathlib.Core.List.{◌∷◌}
 use lib.ListN.{get_or-eq_default}
 use Rattle.layout.proofs.Spelled.{four-on}
 use Rattle.amounts.specs.Dates.{leap, months, days_in}
-use borrow.Author.Rules.{rules}
 use Rattle.amounts.proofs.dates.days_in.Goals as goal
 
 pub returns-in-1 : goal.returns-in-1

@@ -1,9 +1,6 @@
-use Prim.Native.Nat.{◌≤◌, ◌-◌}
-use lib.ListN.{length, drop}
-use Rattle.amounts.specs.Names.{name_right, same_bytes}
-use Rattle.amounts.proofs.Spelling.{name-slash, name-colon, name-on, name-end, same_not, same-on, same_end, same-lengths}
+use Rattle.amounts.proofs.Spelling.{same_not, same-on, same_end, same-lengths}
 use native.Mathlib.Omega.{arith}
-use mathlib.Core.Path.{◌≡◌, refl, sym, ap, ◌∙◌}
+use mathlib.Core.Path.{refl, sym, ◌∙◌}
 use Rattle.amounts.proofs.names.same_bytes.Goals as goal
 
 pub returns-then-a-b : goal.returns-then-a-b

@@ -1,9 +1,7 @@
 use Prim.Native.Nat.{◌≤◌, ◌-◌}
 use lib.ListN.{length, drop}
-use Rattle.amounts.specs.Names.{name_right, same_bytes}
-use Rattle.amounts.proofs.Spelling.{name-slash, name-colon, name-on, name-end, same_not, same-on, same_end, same-lengths}
-use native.Mathlib.Omega.{arith}
-use mathlib.Core.Path.{◌≡◌, refl, sym, ap, ◌∙◌}
+use Rattle.amounts.specs.Names.{same_bytes}
+use mathlib.Core.Path.{◌≡◌}
 use Rattle.amounts.proofs.names.same_bytes.Given as goal
 
 abbrev pub invariant-loop-i : goal.invariant-loop-i

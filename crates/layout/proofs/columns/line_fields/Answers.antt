@@ -1,7 +1,5 @@
-use mathlib.Core.Path.{◌≡◌, refl, sym, ap, ◌∙◌}
 use native.Mathlib.Omega.{arith}
 use Rattle.layout.proofs.Table.{near-rule}
-use borrow.Author.Rules.{rules}
 use Rattle.layout.proofs.columns.line_fields.Goals as goal
 
 pub amount_at-requires : goal.amount_at-requires

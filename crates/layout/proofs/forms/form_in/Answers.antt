@@ -4,7 +4,6 @@ use Rattle.layout.specs.declared.RecordType.TheVariants.{F4, T10, T20, T40, T50,
 use Rattle.layout.specs.Kinds.{same, type_of}
 use Rattle.layout.specs.Forms.{form_of}
 use Rattle.layout.proofs.Spelled.{no-type, kind-spelled}
-use borrow.Author.Rules.{rules}
 use Rattle.layout.proofs.forms.form_in.Goals as goal
 
 pub returns-then-t-eq12340 : goal.returns-then-t-eq12340

@@ -1,5 +1,4 @@
 use Rattle.layout.specs.Kinds.{numbered}
-use borrow.Author.Rules.{rules}
 use Rattle.layout.proofs.forms.is_numbered.Goals as goal
 
 pub returns-in-Head : goal.returns-in-Head

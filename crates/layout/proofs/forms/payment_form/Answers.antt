@@ -3,7 +3,6 @@ use Rattle.text.specs.Numbers.{number_from}
 use Rattle.layout.specs.Kinds.{payment_kind}
 use Rattle.layout.specs.Forms.{form_of}
 use Rattle.layout.proofs.Spelled.{no-fifty}
-use borrow.Author.Rules.{rules}
 use Rattle.layout.proofs.forms.payment_form.Goals as goal
 
 pub returns-in-49 : goal.returns-in-49

@@ -4,7 +4,6 @@ use Rattle.layout.specs.Sections.{section_at}
 use Rattle.layout.specs.Kinds.{section_kind_from}
 use Rattle.layout.specs.Forms.{form_of}
 use Rattle.layout.proofs.Spelled.{none-of-eight, no-forty}
-use borrow.Author.Rules.{rules}
 use Rattle.layout.proofs.forms.section_form.Goals as goal
 
 pub returns-in-49 : goal.returns-in-49

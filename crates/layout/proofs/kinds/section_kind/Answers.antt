@@ -1,7 +1,6 @@
 use mathlib.Core.Path.{◌∙◌, sym, ap}
 use Rattle.layout.specs.Decision.{kind_by}
 use Rattle.layout.proofs.Decision.{decision-is-table}
-use borrow.Author.Rules.{rules}
 use Rattle.layout.proofs.kinds.section_kind.Goals as goal
 
 pub returns-in-OfLine : goal.returns-in-OfLine

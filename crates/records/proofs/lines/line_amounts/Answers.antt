@@ -1,5 +1,4 @@
 -- `records::lines::line_amounts` meets its contract: both fields of the section's row lie within the record, whatever the section.
-use borrow.Author.Rules.{rules}
 use Rattle.layout.proofs.Table.{near-rule}
 use Rattle.records.proofs.lines.line_amounts.Goals as goal
 

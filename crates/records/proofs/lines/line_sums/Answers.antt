@@ -1,8 +1,6 @@
 -- `records::lines::line_sums` meets its contract: a record that is no line has no amounts.
 use Rattle.layout.proofs.OtherKinds.{no_line}
-use borrow.Author.Rules.{rules}
 use mathlib.Core.Path.{sym}
-
 use borrow.Enum.Refused.{opened}
 use Rattle.records.proofs.lines.line_sums.Goals as goal
 

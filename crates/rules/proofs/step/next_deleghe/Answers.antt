@@ -1,8 +1,6 @@
 -- `rules::step::next_deleghe` meets its contract: a record that is no record 10 opens no delega.
 use Rattle.layout.proofs.OtherKinds.{no-taxpayer}
-use borrow.Author.Rules.{rules}
 use mathlib.Core.Path.{sym}
-
 use borrow.Enum.Refused.{opened}
 use Rattle.rules.proofs.step.next_deleghe.Goals as goal
 

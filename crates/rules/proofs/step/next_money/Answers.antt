@@ -1,4 +1,3 @@
-use borrow.Author.Rules.{rules}
 use Rattle.rules.proofs.step.next_money.Goals as goal
 
 pub returns-in-Head : goal.returns-in-Head

@@ -1,8 +1,6 @@
 -- `rules::step::next_others` meets its contract: a line is none of them, and a record that is no line counts.
 use Rattle.layout.proofs.OtherKinds.{no_line}
-use borrow.Author.Rules.{rules}
 use mathlib.Core.Path.{sym}
-
 use borrow.Enum.Refused.{opened}
 use Rattle.rules.proofs.step.next_others.Goals as goal
 

@@ -1,4 +1,3 @@
-use borrow.Author.Rules.{rules}
 use Rattle.rules.proofs.step.opened_money.Goals as goal
 
 pub returns : goal.returns

@@ -1,6 +1,5 @@
 use Rattle.amounts.specs.Amounts.{final_of}
 use native.Mathlib.Omega.{arith}
-use borrow.Author.Rules.{rules}
 use Rattle.rules.proofs.step.payment_money.Goals as goal
 
 pub overflow_add-total : goal.overflow_add-total

@@ -2,7 +2,6 @@ use lib.Seq.{set_out}
 use native.Mathlib.Omega.{arith}
 use mathlib.Core.Path.{sym}
 use Rattle.rules.specs.Step.{added_at}
-use borrow.Author.Rules.{rules}
 use Rattle.rules.proofs.step.plus_at.Goals as goal
 
 pub plus-requires : goal.plus-requires

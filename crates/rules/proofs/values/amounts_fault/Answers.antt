@@ -1,5 +1,4 @@
-use Rattle.rules.specs.Values.{head_on, balance_end, balance_on, payment_on, tail_on, amounts_on, values_on}
-use borrow.Author.Rules.{rules}
+use Rattle.rules.specs.Values.{amounts_on}
 use Rattle.rules.proofs.values.amounts_fault.Goals as goal
 
 pub returns-in-Head : goal.returns-in-Head

@@ -1,8 +1,7 @@
 use Rattle.layout.proofs.Table.{near-rule}
 use native.Mathlib.Omega.{arith}
-use Rattle.rules.specs.Values.{head_on, balance_end, balance_on, payment_on, tail_on, amounts_on, values_on}
-use borrow.Author.Tests.{eq-eqb, ne_eqb, lt-ltb, le-ltb, le-leb, lt-leb}
-use borrow.Author.Rules.{rules}
+use Rattle.rules.specs.Values.{balance_on}
+use borrow.Author.Tests.{eq-eqb, ne_eqb}
 use Rattle.rules.proofs.values.balance_fault.Goals as goal
 
 pub overflow_add-result : goal.overflow_add-result

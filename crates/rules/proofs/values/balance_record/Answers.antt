@@ -1,7 +1,5 @@
-use mathlib.Core.Path.{◌≡◌, refl, sym, ap, ◌∙◌}
 use Rattle.layout.proofs.Table.{near-rule}
 use native.Mathlib.Omega.{arith}
-use borrow.Author.Rules.{rules}
 use Rattle.rules.proofs.values.balance_record.Goals as goal
 
 pub bounds-rec-at : goal.bounds-rec-at

@@ -1,5 +1,5 @@
-use Rattle.rules.specs.Checks.{carried, number_fault, negative_fault, head_name, tail_name, date_fault}
-use borrow.Author.Tests.{eq-eqb, ne_eqb, lt-ltb, le-ltb, le-leb, lt-leb}
+use Rattle.rules.specs.Checks.{carried}
+use borrow.Author.Tests.{eq-eqb, ne_eqb}
 use Rattle.rules.proofs.values.carries.Goals as goal
 
 pub returns-then-n-expected : goal.returns-then-n-expected

@@ -1,6 +1,5 @@
-use Rattle.rules.specs.Checks.{carried, number_fault, negative_fault, head_name, tail_name, date_fault}
-use Rattle.rules.specs.Values.{head_on, balance_end, balance_on, payment_on, tail_on, amounts_on, values_on}
-use borrow.Author.Rules.{rules}
+use Rattle.rules.specs.Checks.{head_name, date_fault}
+use Rattle.rules.specs.Values.{head_on}
 use Rattle.rules.proofs.values.head_fault.Goals as goal
 
 pub returns-then-date_right : goal.returns-then-date_right

@@ -1,5 +1,4 @@
-use Rattle.rules.specs.Checks.{carried, number_fault, negative_fault, head_name, tail_name, date_fault}
-use borrow.Author.Rules.{rules}
+use Rattle.rules.specs.Checks.{number_fault}
 use Rattle.rules.proofs.values.number_fault.Goals as goal
 
 pub returns-in-Head : goal.returns-in-Head

@@ -1,7 +1,6 @@
-use Rattle.rules.specs.Checks.{carried, number_fault, negative_fault, head_name, tail_name, date_fault}
-use Rattle.rules.specs.Values.{head_on, balance_end, balance_on, payment_on, tail_on, amounts_on, values_on}
-use borrow.Author.Tests.{eq-eqb, ne_eqb, lt-ltb, le-ltb, le-leb, lt-leb}
-use borrow.Author.Rules.{rules}
+use Rattle.rules.specs.Checks.{negative_fault}
+use Rattle.rules.specs.Values.{payment_on}
+use borrow.Author.Tests.{eq-eqb, ne_eqb, lt-ltb, le-ltb}
 use Rattle.rules.proofs.values.payment_fault.Goals as goal
 
 pub returns-then-t : goal.returns-then-t

@@ -11,7 +11,6 @@ use Rattle.words.proofs.Fields.{at-most-each}
 use Rattle.layout.specs.Fields.{support_name, bytes_of}
 use Rattle.amounts.specs.Names.{same_bytes}
 use Rattle.rules.proofs.SameName.{name-same, name-other}
-use borrow.Author.Rules.{rules}
 use Rattle.rules.proofs.values.same_name.Goals as goal
 use Rattle.rules.proofs.values.same_name.Goals.{After-word_at-2, After-word_at-4}
 

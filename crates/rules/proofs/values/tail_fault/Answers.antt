@@ -1,6 +1,5 @@
-use Rattle.rules.specs.Values.{head_on, balance_end, balance_on, payment_on, tail_on, amounts_on, values_on}
-use borrow.Author.Tests.{eq-eqb, ne_eqb, lt-ltb, le-ltb, le-leb, lt-leb}
-use borrow.Author.Rules.{rules}
+use Rattle.rules.specs.Values.{tail_on}
+use borrow.Author.Tests.{eq-eqb, ne_eqb}
 use Rattle.rules.proofs.values.tail_fault.Goals as goal
 
 pub returns-then-vs-st : goal.returns-then-vs-st

@@ -1,5 +1,4 @@
 use Rattle.rules.specs.Checks.{tail_name}
-use borrow.Author.Rules.{rules}
 use Rattle.rules.proofs.values.tail_record.Goals as goal
 
 pub returns-then-same_name : goal.returns-then-same_name

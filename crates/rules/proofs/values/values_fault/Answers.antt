@@ -1,5 +1,4 @@
-use Rattle.rules.specs.Values.{head_on, balance_end, balance_on, payment_on, tail_on, amounts_on, values_on}
-use borrow.Author.Rules.{rules}
+use Rattle.rules.specs.Values.{values_on}
 use Rattle.rules.proofs.values.values_fault.Goals as goal
 
 pub returns-in-Fault : goal.returns-in-Fault

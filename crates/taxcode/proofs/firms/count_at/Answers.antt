@@ -1,7 +1,6 @@
-use Rattle.taxcode.specs.Firms.{doubled, count_at}
+use Rattle.taxcode.specs.Firms.{count_at}
 use Rattle.taxcode.proofs.Digits.{no-digit-counts}
 use mathlib.Core.Path.{sym}
-use borrow.Author.Rules.{rules}
 use Rattle.taxcode.proofs.firms.count_at.Goals as goal
 
 pub returns-then-b-lt48 : goal.returns-then-b-lt48

@@ -1,6 +1,5 @@
 use Rattle.taxcode.specs.Firms.{doubled}
 use borrow.Author.Tests.{lt-ltb, le-ltb}
-use borrow.Author.Rules.{rules}
 use Rattle.taxcode.proofs.firms.doubled.Goals as goal
 
 pub returns-then-twice-gt9 : goal.returns-then-twice-gt9

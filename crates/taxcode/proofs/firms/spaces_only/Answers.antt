@@ -1,9 +1,7 @@
-use Prim.Native.Nat.{◌+◌, ◌≤◌, ◌-◌}
+use Prim.Native.Nat.{◌+◌}
 use mathlib.Core.Path.{◌≡◌, refl, sym, ◌∙◌}
 use native.Mathlib.Omega.{arith}
-use lib.ListN.{length, drop}
 use borrow.Author.Tests.{eq-eqb, ne_eqb}
-use Rattle.taxcode.specs.Places.{every_from}
 use Rattle.taxcode.specs.Firms.{digit_or_space}
 use Rattle.taxcode.proofs.Turns.{every-not, every-on, every-end}
 use Rattle.taxcode.proofs.FirmTurns.{space-place}

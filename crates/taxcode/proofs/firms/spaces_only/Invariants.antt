@@ -1,12 +1,8 @@
 use Prim.Native.Nat.{◌+◌, ◌≤◌, ◌-◌}
-use mathlib.Core.Path.{◌≡◌, refl, sym, ◌∙◌}
-use native.Mathlib.Omega.{arith}
+use mathlib.Core.Path.{◌≡◌}
 use lib.ListN.{length, drop}
-use borrow.Author.Tests.{eq-eqb, ne_eqb}
 use Rattle.taxcode.specs.Places.{every_from}
 use Rattle.taxcode.specs.Firms.{digit_or_space}
-use Rattle.taxcode.proofs.Turns.{every-not, every-on, every-end}
-use Rattle.taxcode.proofs.FirmTurns.{space-place}
 use Rattle.taxcode.proofs.firms.spaces_only.Given as goal
 
 abbrev pub invariant-loop-i : goal.invariant-loop-i

@@ -1,7 +1,6 @@
 use Rattle.taxcode.proofs.Characters.{digit_value, letter-value, digit-least}
 use mathlib.Core.Path.{sym, ◌∙◌}
 use native.Mathlib.Omega.{arith}
-use borrow.Author.Rules.{rules}
 use Rattle.taxcode.proofs.persons.even_value.Goals as goal
 
 pub overflow_sub-b : goal.overflow_sub-b

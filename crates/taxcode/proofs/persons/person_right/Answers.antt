@@ -1,15 +1,14 @@
-use Prim.Native.Nat.{ℕ, ◌+◌, ◌≤◌, ◌<◌, ◌-◌}
+use Prim.Native.Nat.{ℕ, ◌+◌, ◌<◌}
 use mathlib.Core.Path.{◌≡◌, sym, ap, ◌∙◌}
 use native.Mathlib.Omega.{arith}
 use mathlib.Core.Bool.{true}
 use mathlib.Core.List.{List}
-use lib.ListN.{length, take, get_or}
+use lib.ListN.{take, get_or}
 use Rattle.taxcode.specs.Places.{by_place}
 use Rattle.taxcode.specs.Persons.{place_right, odd_values, odd_value, value_at}
 use Rattle.taxcode.proofs.Characters.{letter-small, values-tell}
 use Rattle.taxcode.proofs.Turns.{Counted, counted_none}
 use Rattle.taxcode.proofs.PersonTurns.{person-length, person-stop, person-on, person-end}
-use borrow.Author.Tests.{not-true, not-false}
 use borrow.Author.Rules.{rules}
 use Rattle.taxcode.proofs.persons.person_right.Goals as goal
 use Rattle.taxcode.proofs.persons.person_right.Goals.{After-by_place-sum, After-shared_slice_known-in-loop-i-1, At-loop-i, Else-not-place_right}

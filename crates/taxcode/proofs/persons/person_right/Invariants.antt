@@ -1,16 +1,8 @@
-use Prim.Native.Nat.{ℕ, ◌+◌, ◌≤◌, ◌<◌, ◌-◌}
-use mathlib.Core.Path.{◌≡◌, sym, ap, ◌∙◌}
-use native.Mathlib.Omega.{arith}
-use mathlib.Core.Bool.{true}
-use mathlib.Core.List.{List}
-use lib.ListN.{length, take, get_or}
-use Rattle.taxcode.specs.Places.{by_place}
-use Rattle.taxcode.specs.Persons.{place_right, odd_values, odd_value, value_at}
-use Rattle.taxcode.proofs.Characters.{letter-small, values-tell}
-use Rattle.taxcode.proofs.Turns.{Counted, counted_none}
-use Rattle.taxcode.proofs.PersonTurns.{person-length, person-stop, person-on, person-end}
-use borrow.Author.Tests.{not-true, not-false}
-use borrow.Author.Rules.{rules}
+use Prim.Native.Nat.{◌≤◌, ◌-◌}
+use mathlib.Core.Path.{◌≡◌}
+use lib.ListN.{length, take}
+use Rattle.taxcode.specs.Persons.{place_right, value_at}
+use Rattle.taxcode.proofs.Turns.{Counted}
 use Rattle.taxcode.proofs.persons.person_right.Given as goal
 
 abbrev pub invariant-loop-i : goal.invariant-loop-i

@@ -1,5 +1,4 @@
 use Rattle.taxcode.specs.Persons.{capital, place_right}
-use borrow.Author.Rules.{rules}
 use Rattle.taxcode.proofs.persons.place_right.Goals as goal
 
 pub returns-then-holds_figure : goal.returns-then-holds_figure

@@ -1,4 +1,3 @@
-use borrow.Author.Rules.{rules}
 use Rattle.taxcode.proofs.places.is_digit.Goals as goal
 
 pub returns : goal.returns
