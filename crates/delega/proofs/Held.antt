@@ -1,5 +1,5 @@
 -- The sums that are held at the 50-01 of a delega, over records that stand in order and carry their numbers: those of the lines that carry its number.
-use Prim.Native.Nat.{ℕ, zero, suc, ◌+◌, ◌<◌, ◌≤◌}
+use Prim.Native.Nat.{ℕ, ◌+◌, ◌<◌, ◌≤◌}
 use mathlib.Core.Path.{◌≡◌, refl}
 use mathlib.Core.Bool.{true, cond}
 use mathlib.Core.List.{List}
@@ -7,7 +7,7 @@ use native.Mathlib.Omega.{arith}
 use native.Mathlib.Decide.{ℕ_discrete}
 use borrow.Author.Tests.{eq-eqb, ne_eqb}
 use lib.Dec.{eqb}
-use lib.ListN.{length, get_or, replicate}
+use lib.ListN.{length, get_or}
 use lib.Seq.{get_or-set_same, get_or-set_other}
 use Rattle.layout.specs.declared.Kind.TheVariants.{Line}
 use Rattle.layout.specs.Kinds.{of_line, kind_in}
@@ -16,7 +16,7 @@ use Rattle.amounts.specs.declared.Sums.{Sums}
 use Rattle.rules.specs.declared.DelegaSums.{DelegaSums}
 use Rattle.rules.specs.declared.State.{State}
 use Rattle.rules.specs.State.{no_sums, zero_delega, start_state}
-use Rattle.rules.specs.Step.{added, added_at, line_sums}
+use Rattle.rules.specs.Step.{added_at, line_sums}
 use Rattle.judge.proofs.PlainSums.{side-line, side-added, no-side}
 use Rattle.judge.specs.Plain.{Side, Debit, Credit, side_of, column_of, state_after}
 use Rattle.delega.specs.PlainDelega.{section_of, lines_of}

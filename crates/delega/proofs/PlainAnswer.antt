@@ -11,7 +11,7 @@ use Rattle.layout.specs.Kinds.{of_line, of_payment, kind_in}
 use Rattle.layout.specs.Fields.{final_balance, value_of}
 use Rattle.amounts.specs.declared.Sums.{Sums}
 use Rattle.rules.specs.declared.DelegaSums.{DelegaSums}
-use Rattle.amounts.specs.declared.Outcome.TheVariants.{Pass, Fault}
+use Rattle.amounts.specs.declared.Outcome.TheVariants.{Pass}
 use Rattle.rules.specs.declared.State.{State}
 use Rattle.rules.specs.State.{no_sums, zero_delega, start_state}
 use Rattle.amounts.specs.Amounts.{final_of}

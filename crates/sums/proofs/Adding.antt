@@ -1,6 +1,6 @@
 -- The pass that adds the lines up: after its last record the state has the ten sums of the flow's lines, and so has the judgement of an accepted flow.
 use Prim.Native.Nat.{ℕ, ◌+◌, ◌*◌, ◌/◌, ◌<◌, ◌≤◌}
-use mathlib.Core.Path.{◌≡◌, refl, sym, ap, ap₂, ◌∙◌}
+use mathlib.Core.Path.{◌≡◌, sym, ap, ap₂, ◌∙◌}
 use mathlib.Core.List.{List, ◌∷◌}
 use native.Mathlib.Omega.{arith}
 use lib.ListN.{length, take, drop, get_or}
@@ -13,13 +13,12 @@ use Rattle.rules.proofs.Growth.{start-below}
 use Rattle.state.proofs.Rooms.{five-of}
 use Rattle.judge.specs.declared.Judgement.{Judgement}
 use Rattle.judge.specs.declared.Verdict.TheVariants.{Accepted}
-use Rattle.judge.specs.Flow.{accepted_with, records_of, rest_of, judged}
+use Rattle.judge.specs.Flow.{records_of, rest_of, judged}
 use Rattle.judge.specs.Plain.{Side, Debit, Credit, side_of, section_in, state_after}
 use Rattle.judge.proofs.Accepted.{accepted-means-no-fault, sound-judged}
 use Rattle.judge.proofs.PlainSums.{no-side, sections-after}
 use Rattle.rebalance.specs.Weigh.{Turn}
 use Rattle.rebalance.proofs.Turns.{next-below, rest-on, rest_end, rest-start}
-use Rattle.sums.specs.declared.KeptSums.{KeptSums}
 use Rattle.sums.specs.LineSums.{section_sums, sums_in, kept_of}
 
 -- The state after records has the sums of their lines.

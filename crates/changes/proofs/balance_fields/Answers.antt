@@ -1,6 +1,5 @@
 -- `changes::balance_fields` meets its contract.
 use native.Mathlib.Omega.{arith}
-use borrow.Author.Rules.{rules}
 use Rattle.layout.proofs.Table.{near-rule}
 use Rattle.changes.proofs.balance_fields.Goals as goal
 

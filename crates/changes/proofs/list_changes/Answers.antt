@@ -1,11 +1,10 @@
-use Prim.Native.Nat.{ℕ, ◌-◌, ◌/◌, ◌<◌}
+use Prim.Native.Nat.{ℕ, ◌/◌, ◌<◌}
 use mathlib.Core.Path.{ap, ◌∙◌}
 use mathlib.Core.List.{List}
 use native.Mathlib.Omega.{arith}
 use lib.ListN.{length}
-use borrow.Author.Rules.{rules}
 use Rattle.records.proofs.Sizes.{record-sized}
-use Rattle.changes.proofs.Listing.{Going, going_start, going_end, going_on}
+use Rattle.changes.proofs.Listing.{going_start, going_end, going_on}
 use Rattle.changes.proofs.list_changes.Goals as goal
 use Rattle.changes.proofs.list_changes.Goals.{In-loop-k, Start}
 

@@ -1,13 +1,7 @@
 -- `changes::list_changes` meets its contract. The loop's invariant: the records that are left give the whole answer and the whole list. The measure is the number of
 -- records left.
-use Prim.Native.Nat.{ℕ, ◌-◌, ◌/◌, ◌<◌}
-use mathlib.Core.Path.{ap, ◌∙◌}
-use mathlib.Core.List.{List}
-use native.Mathlib.Omega.{arith}
-use lib.ListN.{length}
-use borrow.Author.Rules.{rules}
-use Rattle.records.proofs.Sizes.{record-sized}
-use Rattle.changes.proofs.Listing.{Going, going_start, going_end, going_on}
+use Prim.Native.Nat.{◌-◌}
+use Rattle.changes.proofs.Listing.{Going}
 use Rattle.changes.proofs.list_changes.Given as goal
 
 abbrev pub invariant-loop-k : goal.invariant-loop-k

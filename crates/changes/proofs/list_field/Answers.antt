@@ -2,7 +2,6 @@
 use mathlib.Core.Path.{sym, ◌∙◌}
 use Rattle.changes.specs.Changes.{stays}
 use Rattle.changes.proofs.Listing.{field-same, field-changed}
-use borrow.Author.Rules.{rules}
 use Rattle.changes.proofs.list_field.Goals as goal
 
 pub returns-then-same_bytes : goal.returns-then-same_bytes

@@ -1,9 +1,8 @@
-use Prim.Native.Nat.{ℕ, ◌+◌, ◌-◌, ◌<◌}
+use Prim.Native.Nat.{ℕ, ◌+◌, ◌<◌}
 use mathlib.Core.Path.{◌≡◌, ap, ◌∙◌}
 use mathlib.Core.List.{List, [], ◌∷◌}
 use native.Mathlib.Omega.{arith}
 use lib.ListN.{length, get_or}
-use borrow.Author.Rules.{rules}
 use Rattle.layout.specs.declared.Field.{Field}
 use Rattle.layout.specs.declared.Fields.{Fields}
 use Rattle.layout.specs.declared.Kind.{Kind}
@@ -12,7 +11,7 @@ use Rattle.layout.specs.Fields.{nowhere, listed}
 use Rattle.changes.specs.Changes.{written_fields, changed_in}
 use Rattle.changes.specs.Inner.{put_places}
 use Rattle.changes.proofs.FieldsWritten.{written_apart, apart-at, inside, in_four, field_is}
-use Rattle.changes.proofs.Listing.{Listing, listing_start, listing-end, listing-on}
+use Rattle.changes.proofs.Listing.{listing_start, listing-end, listing-on}
 use Rattle.changes.proofs.list_record.Goals as goal
 use Rattle.changes.proofs.list_record.Goals.{At-loop-f, In-loop-f}
 

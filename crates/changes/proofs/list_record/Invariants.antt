@@ -1,20 +1,9 @@
 -- `changes::list_record` meets its contract. The loop's invariant: the fields that are left give the whole answer and the whole list. The measure is the number of
 -- fields left.
-use Prim.Native.Nat.{ℕ, ◌+◌, ◌-◌, ◌<◌}
-use mathlib.Core.Path.{◌≡◌, ap, ◌∙◌}
-use mathlib.Core.List.{List, [], ◌∷◌}
-use native.Mathlib.Omega.{arith}
-use lib.ListN.{length, get_or}
-use borrow.Author.Rules.{rules}
-use Rattle.layout.specs.declared.Field.{Field}
-use Rattle.layout.specs.declared.Fields.{Fields}
-use Rattle.layout.specs.declared.Kind.{Kind}
+use Prim.Native.Nat.{◌-◌}
 use Rattle.layout.specs.Kinds.{kind_in}
-use Rattle.layout.specs.Fields.{nowhere, listed}
-use Rattle.changes.specs.Changes.{written_fields, changed_in}
-use Rattle.changes.specs.Inner.{put_places}
-use Rattle.changes.proofs.FieldsWritten.{written_apart, apart-at, inside, in_four, field_is}
-use Rattle.changes.proofs.Listing.{Listing, listing_start, listing-end, listing-on}
+use Rattle.changes.specs.Changes.{written_fields}
+use Rattle.changes.proofs.Listing.{Listing}
 use Rattle.changes.proofs.list_record.Given as goal
 
 abbrev pub invariant-loop-f : goal.invariant-loop-f

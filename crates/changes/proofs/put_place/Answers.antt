@@ -3,7 +3,6 @@ use native.Mathlib.Omega.{arith}
 use lib.ListN.{length-set}
 use borrow.Author.Tests.{lt-ltb, le-ltb}
 use Rattle.changes.specs.Inner.{put_place}
-use borrow.Author.Rules.{rules}
 use Rattle.changes.proofs.put_place.Goals as goal
 
 pub bounds-list-n-then-n-list : goal.bounds-list-n-then-n-list

@@ -1,5 +1,4 @@
 -- `changes::written_fields` meets its contract.
-use borrow.Author.Rules.{rules}
 use Rattle.changes.proofs.written_fields.Goals as goal
 
 pub returns-in-Head : goal.returns-in-Head

@@ -1,6 +1,5 @@
 -- `close::close_up` meets its contract.
 use Rattle.close.proofs.Spaces.{spaces-behind}
-use borrow.Author.Rules.{rules}
 use Rattle.close.proofs.close_up.Goals as goal
 
 pub returns : goal.returns

@@ -1,7 +1,6 @@
 -- `close::is_kept` meets its contract.
 use Rattle.order.proofs.Fitting.{turned}
 use Rattle.close.specs.Closing.{stays}
-use borrow.Author.Rules.{rules}
 use Rattle.close.proofs.is_kept.Goals as goal
 
 pub returns-then-is_numbered : goal.returns-then-is_numbered

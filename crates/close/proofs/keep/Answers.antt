@@ -5,7 +5,6 @@ use lib.ListN.{length}
 use Rattle.rules.proofs.Growth.{deleghe-on}
 use Rattle.records.proofs.Sizes.{record-sized}
 use Rattle.close.proofs.Closed.{record-stays, record-goes}
-use borrow.Author.Rules.{rules}
 use Rattle.close.proofs.keep.Goals as goal
 use Rattle.close.proofs.keep.Goals.{After-record_at-rec}
 

@@ -2,7 +2,6 @@
 use native.Mathlib.Omega.{arith}
 use Rattle.text.proofs.Bytes.{part_length}
 use Rattle.close.proofs.Closed.{record-moved}
-use borrow.Author.Rules.{rules}
 use Rattle.close.proofs.move_record.Goals as goal
 
 pub returns : goal.returns

@@ -1,6 +1,4 @@
-use Prim.Native.Nat.{◌-◌}
 use native.Mathlib.Omega.{arith}
-use Rattle.close.specs.Inner.{ClosedSoFar}
 use Rattle.close.proofs.Closed.{closed-start, closed-length, closed-reached, closed_on, closed-end}
 use Rattle.close.proofs.move_up.Goals as goal
 

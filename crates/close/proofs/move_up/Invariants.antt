@@ -1,8 +1,6 @@
 -- `close::move_up` meets its contract. The loop's invariant: the records so far that stay stand at the front, and behind them the flow is as it came. The measure is the number of records left.
 use Prim.Native.Nat.{◌-◌}
-use native.Mathlib.Omega.{arith}
 use Rattle.close.specs.Inner.{ClosedSoFar}
-use Rattle.close.proofs.Closed.{closed-start, closed-length, closed-reached, closed_on, closed-end}
 use Rattle.close.proofs.move_up.Given as goal
 
 abbrev pub invariant-loop-k : goal.invariant-loop-k

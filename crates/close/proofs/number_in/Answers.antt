@@ -5,7 +5,6 @@ use native.Mathlib.Omega.{arith}
 use Rattle.text.specs.Numbers.{number_of, amount_of}
 use Rattle.text.proofs.Bytes.{part_length}
 use Rattle.text.proofs.Numerals.{read-is-number}
-use borrow.Author.Rules.{rules}
 use Rattle.close.proofs.number_in.Goals as goal
 use Rattle.close.proofs.number_in.Goals.{After-number}
 

@@ -1,9 +1,7 @@
 -- `close::put_spaces` meets its contract. The loop's invariant: spaces stand before the index. The measure is how many bytes are left.
 use Prim.Native.Nat.{◌-◌, ◌≤◌}
-use mathlib.Core.Path.{◌≡◌, refl}
-use native.Mathlib.Omega.{arith}
-use lib.ListN.{length, take, replicate, length-set}
-use Rattle.close.proofs.Spaces.{spaces-on, spaces-end}
+use mathlib.Core.Path.{◌≡◌}
+use lib.ListN.{length, take, replicate}
 use Rattle.close.proofs.put_spaces.Given as goal
 
 abbrev pub invariant-loop-i : goal.invariant-loop-i

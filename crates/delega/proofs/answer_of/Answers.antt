@@ -1,5 +1,4 @@
 -- `delega::answer_of` meets its contract.
-use borrow.Author.Rules.{rules}
 use Rattle.delega.proofs.answer_of.Goals as goal
 
 pub returns : goal.returns

@@ -1,8 +1,6 @@
 -- `delega::closes` meets its contract: a record that is no 50-01 closes no delega.
 use Rattle.layout.proofs.OtherKinds.{no-payment}
 use mathlib.Core.Path.{sym}
-use borrow.Author.Rules.{rules}
-
 use borrow.Enum.Refused.{opened}
 use Rattle.delega.proofs.closes.Goals as goal
 

@@ -1,18 +1,10 @@
 -- `delega::delega_from` meets its contract. The invariant: what the whole search answers, the rest of the records gives from the state; the measure is the records that are left.
-use Rattle.delega.proofs.Search.{Searching, search-start, search-end, search-found, search-on}
-use Rattle.records.proofs.Sizes.{record-sized, sums-small}
+use Rattle.delega.proofs.Search.{Searching}
 use Rattle.delega.specs.Used.{none_used}
 use Rattle.delega.specs.OneDelega.{delega_from}
 use Rattle.judge.specs.Flow.{records_of}
-use Rattle.rules.proofs.Growth.{step_room}
 use Rattle.rules.specs.State.{start_state}
-use Rattle.rules.specs.declared.State.{State}
-use lib.ListN.{length}
-use mathlib.Core.List.{List}
-use Prim.Native.Nat.{ℕ, ◌-◌, ◌<◌}
-use borrow.Author.Rules.{rules}
-use native.Mathlib.Omega.{arith}
-use mathlib.Core.Path.{◌≡◌, sym, ◌∙◌}
+use Prim.Native.Nat.{◌-◌}
 use Rattle.delega.proofs.delega_from.Given as goal
 
 abbrev pub invariant-loop-st : goal.invariant-loop-st

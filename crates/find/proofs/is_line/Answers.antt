@@ -2,8 +2,6 @@
 use Rattle.layout.proofs.OtherKinds.{no_line}
 use borrow.Author.Tests.{eq-eqb, ne_eqb}
 use mathlib.Core.Path.{sym}
-use borrow.Author.Rules.{rules}
-
 use borrow.Enum.Refused.{opened}
 use Rattle.find.proofs.is_line.Goals as goal
 

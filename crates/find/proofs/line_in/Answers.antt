@@ -1,7 +1,6 @@
-use Rattle.find.proofs.Search.{Searching, search-starts, search-ends, search-finds, search-on}
+use Rattle.find.proofs.Search.{search-starts, search-ends, search-finds, search-on}
 use Rattle.records.proofs.Sizes.{record-sized}
 use lib.ListN.{length}
-use Prim.Native.Nat.{◌-◌}
 use borrow.Author.Rules.{rules}
 use mathlib.Core.Path.{◌≡◌, sym, ◌∙◌}
 use Rattle.find.proofs.line_in.Goals as goal

@@ -1,11 +1,7 @@
 -- `find::line_in` meets its contract. The loop's invariant: what is sought in the whole flow, the records that are left give from the stage, the delega and
 -- the count that the records before them led to. The measure is the number of records left.
-use Rattle.find.proofs.Search.{Searching, search-starts, search-ends, search-finds, search-on}
-use Rattle.records.proofs.Sizes.{record-sized}
-use lib.ListN.{length}
+use Rattle.find.proofs.Search.{Searching}
 use Prim.Native.Nat.{◌-◌}
-use borrow.Author.Rules.{rules}
-use mathlib.Core.Path.{◌≡◌, sym, ◌∙◌}
 use Rattle.find.proofs.line_in.Given as goal
 
 abbrev pub invariant-loop-k : goal.invariant-loop-k

@@ -1,5 +1,4 @@
 -- `find::part_of` meets its contract: the answer's record as `judge::nth_record` hands it out, or the empty part at the flow's start.
-use borrow.Author.Rules.{rules}
 use mathlib.Core.Path.{refl}
 use native.Mathlib.Omega.{arith}
 use Rattle.find.proofs.part_of.Goals as goal

@@ -1,10 +1,9 @@
-use Prim.Native.Nat.{ℕ, ◌-◌, ◌<◌}
+use Prim.Native.Nat.{ℕ, ◌<◌}
 use mathlib.Core.Path.{◌≡◌, refl, sym, ap, ◌∙◌}
 use mathlib.Core.List.{List}
 use native.Mathlib.Omega.{arith}
 use lib.ListN.{length, take, drop, get_or}
 use lib.Seq.{get_or-take}
-use borrow.Author.Rules.{rules}
 use Rattle.text.specs.declared.Digits.{Digits}
 use Rattle.text.specs.Numbers.{number_of}
 use Rattle.layout.specs.declared.Field.{Field}
@@ -17,7 +16,6 @@ use Rattle.records.specs.Reading.{non_digit_at}
 use Rattle.records.proofs.FieldByField.{non-digit-near, bad-on, bad-here, bad-end}
 use Rattle.rebalance.specs.Rebalance.{kept_fields}
 use Rattle.lenient.proofs.KeptFields.{kept-four, kept-listed, kept-within}
-
 use borrow.Enum.Refused.{opened}
 use Rattle.lenient.proofs.digits_fault.Goals as goal
 use Rattle.lenient.proofs.digits_fault.Goals.{After-read_field-said, At-loop-f, In-loop-f}

@@ -1,7 +1,6 @@
 -- `lenient::ended` meets its contract: behind EF there is no refusal, else 5.
 use Rattle.lenient.specs.Lenient.{ended}
 use borrow.Author.Tests.{eq-eqb, ne_eqb}
-use borrow.Author.Rules.{rules}
 use Rattle.lenient.proofs.ended.Goals as goal
 
 pub returns-then-stage-eq-TAIL : goal.returns-then-stage-eq-TAIL

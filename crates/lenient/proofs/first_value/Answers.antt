@@ -11,7 +11,6 @@ use Rattle.layout.specs.declared.Fields.{Fields}
 use Rattle.layout.specs.declared.Kind.{Kind}
 use Rattle.layout.specs.Fields.{nowhere, fields_of, bytes_of}
 use Rattle.lenient.proofs.KeptFields.{first-listed, first-within}
-use borrow.Author.Rules.{rules}
 use Rattle.lenient.proofs.first_value.Goals as goal
 use Rattle.lenient.proofs.first_value.Goals.{After-read_field-arg-1}
 

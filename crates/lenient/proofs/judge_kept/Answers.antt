@@ -1,16 +1,13 @@
-use Prim.Native.Nat.{ℕ, ◌-◌, ◌/◌, ◌<◌}
+use Prim.Native.Nat.{ℕ, ◌/◌, ◌<◌}
 use mathlib.Core.Path.{◌≡◌, sym, ap, ◌∙◌}
 use mathlib.Core.List.{List}
 use native.Mathlib.Omega.{arith}
 use lib.ListN.{length}
-use borrow.Author.Rules.{rules}
 use Rattle.rules.specs.declared.State.{State}
 use Rattle.rules.specs.Step.{next}
 use Rattle.records.proofs.Sizes.{record-sized}
-use Rattle.judge.specs.Flow.{head_name_of}
 use Rattle.rebalance.specs.Weigh.{Turn}
 use Rattle.rebalance.proofs.Turns.{next-by, turn-room}
-use Rattle.lenient.specs.Lenient.{lenient_fault}
 use Rattle.lenient.proofs.Judging.{fault-by, Judging, judging-start, judging-end, judging-refuses, judging-on}
 use Rattle.lenient.proofs.judge_kept.Goals as goal
 use Rattle.lenient.proofs.judge_kept.Goals.{After-next_state-st, After-record_at-rec, Start}

@@ -7,7 +7,6 @@ use Rattle.order.specs.Order.{standing}
 use Rattle.rules.specs.Checks.{number_fault}
 use Rattle.lenient.specs.Inner.{kept_of}
 use Rattle.lenient.proofs.KeptFields.{first-number}
-use borrow.Author.Rules.{rules}
 use Rattle.lenient.proofs.kept_fault.Goals as goal
 use Rattle.lenient.proofs.kept_fault.Goals.{After-number_fault, After-standing_of}
 

@@ -2,7 +2,6 @@
 use mathlib.Core.Path.{◌∙◌}
 use Rattle.rules.specs.Checks.{code_fault}
 use Rattle.rules.specs.Values.{head_on, code_on}
-use borrow.Author.Rules.{rules}
 use Rattle.lenient.proofs.own_fault.Goals as goal
 
 pub returns-in-Head : goal.returns-in-Head

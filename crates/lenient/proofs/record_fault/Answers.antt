@@ -3,7 +3,6 @@ use Prim.Native.Nat.{◌+◌}
 use borrow.Author.Tests.{eq-eqb, ne_eqb}
 use Rattle.lenient.specs.Lenient.{misfit_fault}
 use Rattle.lenient.specs.Inner.{lenient_of}
-use borrow.Author.Rules.{rules}
 use Rattle.lenient.proofs.record_fault.Goals as goal
 
 pub returns-in-Fault : goal.returns-in-Fault

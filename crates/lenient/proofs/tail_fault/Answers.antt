@@ -1,6 +1,5 @@
 -- `lenient::tail_fault` meets its contract.
 use Rattle.rules.specs.Checks.{tail_name}
-use borrow.Author.Rules.{rules}
 use Rattle.lenient.proofs.tail_fault.Goals as goal
 
 pub returns-then-same_bytes : goal.returns-then-same_bytes

@@ -1,5 +1,4 @@
 use borrow.Author.Tests.{lt-ltb, le-ltb}
-use borrow.Author.Rules.{rules}
 use Rattle.portion.proofs.course_by.Goals as goal
 
 pub returns-then-seen-last : goal.returns-then-seen-last

@@ -1,4 +1,3 @@
-use borrow.Author.Rules.{rules}
 use Rattle.portion.proofs.ended_by.Goals as goal
 
 pub returns-in-Refused : goal.returns-in-Refused

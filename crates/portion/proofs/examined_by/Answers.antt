@@ -1,5 +1,4 @@
 use borrow.Author.Tests.{ne_eqb}
-use borrow.Author.Rules.{rules}
 use Rattle.portion.proofs.examined_by.Goals as goal
 
 pub returns-else-number-eq5 : goal.returns-else-number-eq5

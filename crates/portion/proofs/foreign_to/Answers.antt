@@ -1,4 +1,3 @@
-use borrow.Author.Rules.{rules}
 use Rattle.portion.proofs.foreign_to.Goals as goal
 
 pub returns : goal.returns

@@ -1,14 +1,12 @@
-use Prim.Native.Nat.{ℕ, ◌-◌, ◌+◌, ◌≤◌}
+use Prim.Native.Nat.{ℕ, ◌+◌}
 use mathlib.Core.Path.{◌≡◌, refl, sym, ap, ◌∙◌}
 use native.Mathlib.Omega.{arith}
-use lib.ListN.{length, drop, replicate, length-set, set}
+use lib.ListN.{length, drop, length-set, set}
 use lib.Seq.{get_or-take, get_or-drop}
 use Rattle.text.specs.Placing.{put_at}
 use Rattle.text.proofs.Bytes.{part_length}
-use Rattle.state.specs.Numbers.{overlay}
 use Rattle.state.proofs.Rooms.{overlay-put, put_on, put-end, overlay-all}
 use Rattle.judge.specs.Flow.{head_name_of}
-use borrow.Author.Rules.{rules}
 use Rattle.portion.proofs.head_name.Goals as goal
 use Rattle.portion.proofs.head_name.Goals.{At-loop-i}
 

@@ -1,14 +1,9 @@
-use Prim.Native.Nat.{ℕ, ◌-◌, ◌+◌, ◌≤◌}
-use mathlib.Core.Path.{◌≡◌, refl, sym, ap, ◌∙◌}
-use native.Mathlib.Omega.{arith}
-use lib.ListN.{length, drop, replicate, length-set, set}
-use lib.Seq.{get_or-take, get_or-drop}
+use Prim.Native.Nat.{◌-◌, ◌≤◌}
+use mathlib.Core.Path.{◌≡◌}
+use lib.ListN.{length, drop, replicate}
 use Rattle.text.specs.Placing.{put_at}
-use Rattle.text.proofs.Bytes.{part_length}
 use Rattle.state.specs.Numbers.{overlay}
-use Rattle.state.proofs.Rooms.{overlay-put, put_on, put-end, overlay-all}
 use Rattle.judge.specs.Flow.{head_name_of}
-use borrow.Author.Rules.{rules}
 use Rattle.portion.proofs.head_name.Given as goal
 
 abbrev pub invariant-loop-i : goal.invariant-loop-i

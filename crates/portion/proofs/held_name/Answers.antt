@@ -1,7 +1,6 @@
 use borrow.Author.Tests.{eq-eqb, ne_eqb}
 use Rattle.state.specs.Numbers.{state_of}
 use Rattle.portion.specs.Portion.{held_name}
-use borrow.Author.Rules.{rules}
 use Rattle.portion.proofs.held_name.Goals as goal
 
 pub returns-then-kept-eq0 : goal.returns-then-kept-eq0

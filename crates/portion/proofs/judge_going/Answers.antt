@@ -3,7 +3,6 @@ use Rattle.state.specs.Numbers.{state_of}
 use Rattle.portion.specs.Portion.{told}
 use Rattle.portion.proofs.Sound.{sound-goes}
 use Rattle.portion.proofs.Ways.{too_long, empty, ragged, more_left, none_left}
-use borrow.Author.Rules.{rules}
 use Rattle.portion.proofs.judge_going.Goals as goal
 
 pub returns-then-n-gt-MOST_BYTES : goal.returns-then-n-gt-MOST_BYTES

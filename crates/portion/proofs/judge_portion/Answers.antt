@@ -1,7 +1,5 @@
 use mathlib.Core.Path.{sym, ◌∙◌}
-use borrow.Author.Tests.{not-true, not-false}
 use Rattle.portion.proofs.Ways.{impossible, by-course}
-use borrow.Author.Rules.{rules}
 use Rattle.portion.proofs.judge_portion.Goals as goal
 
 pub returns-then-not-is_possible : goal.returns-then-not-is_possible

@@ -1,5 +1,4 @@
 use borrow.Author.Tests.{le-leb, lt-leb}
-use borrow.Author.Rules.{rules}
 use Rattle.portion.proofs.last_of.Goals as goal
 
 pub returns-then-count-seen : goal.returns-then-count-seen

@@ -1,4 +1,3 @@
-use borrow.Author.Rules.{rules}
 use Rattle.portion.proofs.summary_by.Goals as goal
 
 pub returns-in-Accepted : goal.returns-in-Accepted

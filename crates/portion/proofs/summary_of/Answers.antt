@@ -1,5 +1,4 @@
 use Rattle.state.specs.Numbers.{state_of}
-use borrow.Author.Rules.{rules}
 use Rattle.portion.proofs.summary_of.Goals as goal
 
 pub returns : goal.returns

@@ -2,7 +2,6 @@
 -- At the test on totals: the answer is that of the section's row.
 use mathlib.Core.Bool.{Bool, true, false}
 use mathlib.Core.Path.{◌≡◌, sym, ap, ◌∙◌}
-use borrow.Author.Rules.{rules}
 use Rattle.layout.specs.declared.Section.{Section}
 use Rattle.layout.specs.Sections.{section_at}
 use Rattle.rebalance.proofs.Fitting.{fits-plain, fits-debit, fits-credit, fits-balance}

@@ -1,7 +1,6 @@
 -- `rebalance::fill_ends` meets its contract: the sign is stored, then the balance is written.
 use mathlib.Core.Path.{◌∙◌}
 use native.Mathlib.Omega.{arith}
-use borrow.Author.Rules.{rules}
 use lib.ListN.{length-set}
 use Rattle.layout.proofs.Table.{near-rule}
 use Rattle.rebalance.proofs.Stores.{ends-written}

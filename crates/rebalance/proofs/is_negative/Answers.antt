@@ -1,8 +1,6 @@
 -- `rebalance::is_negative` meets its contract: a record that is no 50-01 closes no delega.
 use Rattle.layout.proofs.OtherKinds.{no-payment}
-use borrow.Author.Rules.{rules}
 use mathlib.Core.Path.{sym}
-
 use borrow.Enum.Refused.{opened}
 use Rattle.rebalance.proofs.is_negative.Goals as goal
 

@@ -1,6 +1,5 @@
 -- `rebalance::settle` meets its contract: what is written goes by the kind that was read.
 use mathlib.Core.Path.{◌∙◌}
-use borrow.Author.Rules.{rules}
 use Rattle.rebalance.proofs.Stores.{emit-by}
 use Rattle.rebalance.proofs.Turns.{next-by, turn-room}
 use Rattle.rebalance.proofs.settle.Goals as goal

@@ -1,7 +1,6 @@
 -- `rebalance::store` meets its contract: the number fits its field, and the field lies within the record, so that the number is written.
 use mathlib.Core.Path.{◌∙◌}
 use native.Mathlib.Omega.{arith}
-use borrow.Author.Rules.{rules}
 use Rattle.text.proofs.Fits.{number_fits_lem, number-written}
 use Rattle.rebalance.proofs.store.Goals as goal
 

@@ -1,6 +1,5 @@
 -- `rebalance::stored_fit` meets its contract, kind by kind.
 use mathlib.Core.Path.{ap, ◌∙◌}
-use borrow.Author.Rules.{rules}
 use Rattle.rules.specs.Stored.{stored_section}
 use Rattle.amounts.specs.declared.Sums.{Sums}
 use Rattle.rebalance.specs.Rebalance.{fits_all}

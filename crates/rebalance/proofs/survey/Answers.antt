@@ -1,13 +1,12 @@
-use Prim.Native.Nat.{ℕ, ◌-◌, ◌/◌, ◌<◌}
+use Prim.Native.Nat.{ℕ, ◌/◌, ◌<◌}
 use mathlib.Core.List.{List}
 use mathlib.Core.Path.{◌≡◌, ap, ◌∙◌}
 use native.Mathlib.Omega.{arith}
-use borrow.Author.Rules.{rules}
 use lib.ListN.{length}
 use Rattle.rules.specs.Step.{next}
 use Rattle.rules.specs.declared.State.{State}
 use Rattle.rebalance.specs.Weigh.{Turn}
-use Rattle.rebalance.proofs.Surveys.{Surveying, surveying-start, surveying-on, surveying-end}
+use Rattle.rebalance.proofs.Surveys.{surveying-start, surveying-on, surveying-end}
 use Rattle.rebalance.proofs.Turns.{next-by, turn-room}
 use Rattle.records.proofs.Sizes.{record-sized}
 use Rattle.rebalance.proofs.survey.Goals as goal

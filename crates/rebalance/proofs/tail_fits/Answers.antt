@@ -1,6 +1,5 @@
 -- `rebalance::tail_fits` meets its contract: each test settles one of the tail's values.
 use mathlib.Core.Path.{sym}
-use borrow.Author.Rules.{rules}
 use Rattle.rebalance.proofs.Fitting.{fits-deleghe, fits-records, fits_sum}
 use Rattle.rebalance.proofs.tail_fits.Goals as goal
 

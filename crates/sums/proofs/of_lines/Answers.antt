@@ -1,8 +1,7 @@
-use Prim.Native.Nat.{ℕ, ◌-◌, ◌/◌, ◌<◌}
+use Prim.Native.Nat.{ℕ, ◌/◌, ◌<◌}
 use mathlib.Core.List.{List}
 use mathlib.Core.Path.{◌≡◌, ap, ◌∙◌}
 use native.Mathlib.Omega.{arith}
-use borrow.Author.Rules.{rules}
 use lib.ListN.{length}
 use Rattle.amounts.specs.declared.Sums.{Sums}
 use Rattle.rules.specs.Step.{next}
@@ -10,8 +9,7 @@ use Rattle.rules.specs.declared.State.{State}
 use Rattle.records.proofs.Sizes.{record-sized}
 use Rattle.rebalance.specs.Weigh.{Turn}
 use Rattle.rebalance.proofs.Turns.{next-by, turn-room}
-use Rattle.sums.specs.declared.KeptSums.{KeptSums}
-use Rattle.sums.proofs.Adding.{Adding, adding-start, adding-on, adding-end}
+use Rattle.sums.proofs.Adding.{adding-start, adding-on, adding-end}
 use Rattle.sums.proofs.of_lines.Goals as goal
 use Rattle.sums.proofs.of_lines.Goals.{After-next_state-st, After-record_at-rec}
 

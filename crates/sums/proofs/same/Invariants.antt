@@ -1,10 +1,6 @@
 -- `sums::same` meets its contract. The loop's invariant: the sections that are left say what all say. The measure is how many are left.
 use Prim.Native.Nat.{◌-◌}
-use mathlib.Core.Path.{refl}
-use native.Mathlib.Omega.{arith}
-use borrow.Author.Rules.{rules}
-use Rattle.rules.proofs.Arrays.{struct-array}
-use Rattle.sums.proofs.Equality.{Comparing, debit-differs, credit-differs, comparing-on, comparing-end}
+use Rattle.sums.proofs.Equality.{Comparing}
 use Rattle.sums.proofs.same.Given as goal
 
 abbrev pub invariant-loop-i : goal.invariant-loop-i

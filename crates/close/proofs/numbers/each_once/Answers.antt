@@ -1,10 +1,6 @@
-use Prim.Native.Nat.{◌-◌, ◌≤◌}
-use mathlib.Core.Path.{◌≡◌, refl, sym, ap, ◌∙◌}
+use mathlib.Core.Path.{refl, sym, ap, ◌∙◌}
 use mathlib.Core.Bool.{not}
 use native.Mathlib.Omega.{arith}
-use borrow.Author.Rules.{rules}
-use lib.ListN.{length, drop}
-use Rattle.close.specs.Closing.{each_once}
 use Rattle.close.proofs.Named.{once-fails, once-on, once-end}
 use Rattle.close.proofs.Counted.{too_many}
 use Rattle.close.proofs.numbers.each_once.Goals as goal

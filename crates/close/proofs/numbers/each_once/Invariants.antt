@@ -1,12 +1,8 @@
 -- `close::numbers::each_once` meets its contract. The loop's invariant: each of all numbers is named once where each of those left is. The measure is how many are left.
 use Prim.Native.Nat.{◌-◌, ◌≤◌}
-use mathlib.Core.Path.{◌≡◌, refl, sym, ◌∙◌}
-use native.Mathlib.Omega.{arith}
-use borrow.Author.Rules.{rules}
+use mathlib.Core.Path.{◌≡◌}
 use lib.ListN.{length, drop}
 use Rattle.close.specs.Closing.{each_once}
-use Rattle.close.proofs.Named.{once-fails, once-on, once-end}
-use Rattle.close.proofs.Counted.{too_many}
 use Rattle.close.proofs.numbers.each_once.Given as goal
 
 abbrev pub invariant-loop-i : goal.invariant-loop-i

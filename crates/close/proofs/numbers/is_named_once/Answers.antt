@@ -1,5 +1,4 @@
 -- `close::numbers::is_named_once` meets its contract.
-use borrow.Author.Rules.{rules}
 use native.Mathlib.Omega.{arith}
 use borrow.Author.Tests.{lt-ltb, le-ltb}
 use Rattle.close.specs.Inner.{named_once}

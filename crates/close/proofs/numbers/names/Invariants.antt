@@ -1,11 +1,8 @@
 -- `close::numbers::names` meets its contract. The loop's invariant: the number is among all where it is among those left. The measure is how many are left.
 use Prim.Native.Nat.{◌-◌, ◌≤◌}
-use mathlib.Core.Path.{◌≡◌, refl, sym, ◌∙◌}
-use native.Mathlib.Omega.{arith}
-use borrow.Author.Tests.{eq-eqb, ne_eqb}
+use mathlib.Core.Path.{◌≡◌}
 use lib.ListN.{length, drop}
 use Rattle.text.specs.Among.{among}
-use Rattle.close.proofs.Named.{among-on, among-end}
 use Rattle.close.proofs.numbers.names.Given as goal
 
 abbrev pub invariant-loop-i : goal.invariant-loop-i

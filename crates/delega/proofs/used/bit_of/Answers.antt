@@ -1,6 +1,5 @@
 -- `delega::used::bit_of` meets its contract: the bit of a section is 1 shifted by its place in the order of the sections, and past the fifth there is none.
 use native.Mathlib.Omega.{arith}
-use borrow.Author.Rules.{rules}
 use Rattle.delega.proofs.Sets.{bit_shifted, bit-none}
 use Rattle.delega.proofs.used.bit_of.Goals as goal
 

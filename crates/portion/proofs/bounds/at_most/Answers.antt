@@ -1,8 +1,5 @@
-use Prim.Native.Nat.{◌-◌, ◌≤◌}
-use mathlib.Core.Path.{◌≡◌, refl, sym, ◌∙◌}
+use mathlib.Core.Path.{refl, sym, ◌∙◌}
 use native.Mathlib.Omega.{arith}
-use lib.ListN.{length, drop}
-use Rattle.portion.specs.Portion.{at_most}
 use Rattle.portion.proofs.Counts.{most-on, most-not, most-end}
 use Rattle.portion.proofs.bounds.at_most.Goals as goal
 

@@ -1,9 +1,7 @@
 use Prim.Native.Nat.{◌-◌, ◌≤◌}
-use mathlib.Core.Path.{◌≡◌, refl, sym, ◌∙◌}
-use native.Mathlib.Omega.{arith}
+use mathlib.Core.Path.{◌≡◌}
 use lib.ListN.{length, drop}
 use Rattle.portion.specs.Portion.{at_most}
-use Rattle.portion.proofs.Counts.{most-on, most-not, most-end}
 use Rattle.portion.proofs.bounds.at_most.Given as goal
 
 abbrev pub invariant-loop-i : goal.invariant-loop-i

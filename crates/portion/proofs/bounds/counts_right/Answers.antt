@@ -1,7 +1,6 @@
 use borrow.Author.Tests.{le-leb, lt-leb}
 use Rattle.state.specs.Numbers.{state_of}
 use Rattle.portion.specs.Portion.{counts_right}
-use borrow.Author.Rules.{rules}
 use Rattle.portion.proofs.bounds.counts_right.Goals as goal
 
 pub returns-then-seen : goal.returns-then-seen

@@ -1,10 +1,8 @@
 use mathlib.Core.Path.{sym, ◌∙◌}
 use native.Mathlib.Omega.{arith}
-use borrow.Author.Tests.{not-true, not-false}
 use Rattle.state.specs.Numbers.{state_of}
 use Rattle.portion.specs.Portion.{possible}
 use Rattle.portion.proofs.Counts.{counts-say}
-use borrow.Author.Rules.{rules}
 use Rattle.portion.proofs.bounds.is_possible.Goals as goal
 
 pub returns-then-not-counts_right : goal.returns-then-not-counts_right

@@ -1,6 +1,5 @@
 use borrow.Author.Tests.{lt-ltb, le-ltb, le-leb, lt-leb, eq-eqb, ne_eqb}
 use Rattle.portion.specs.Portion.{refusable}
-use borrow.Author.Rules.{rules}
 use Rattle.portion.proofs.bounds.is_refusable.Goals as goal
 
 pub returns-then-number-eq0 : goal.returns-then-number-eq0

@@ -3,7 +3,6 @@ use Prim.Native.Nat.{◌+◌, ◌*◌}
 use native.Mathlib.Omega.{arith}
 use borrow.Author.Tests.{le-leb, lt-leb}
 use Rattle.portion.specs.Portion.{sums_right}
-use borrow.Author.Rules.{rules}
 use Rattle.portion.proofs.bounds.sums_right.Goals as goal
 
 pub returns-then-most-kept : goal.returns-then-most-kept

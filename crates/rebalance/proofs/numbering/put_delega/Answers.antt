@@ -2,7 +2,6 @@
 use native.Mathlib.Omega.{arith}
 use Rattle.rebalance.specs.Numbering.{with_number}
 use Rattle.text.proofs.Fits.{number_put}
-use borrow.Author.Rules.{rules}
 use Rattle.rebalance.proofs.numbering.put_delega.Goals as goal
 
 pub returns-then-is_numbered : goal.returns-then-is_numbered

@@ -1,8 +1,6 @@
 -- `delega::used::Used::after` meets its contract: a record that is neither a record 10 nor a line leaves what is used as it was.
 use Rattle.layout.proofs.OtherKinds.{no-taxpayer, no_line}
 use mathlib.Core.Path.{sym, ◌∙◌}
-use borrow.Author.Rules.{rules}
-
 use borrow.Enum.Refused.{opened}
 use Rattle.delega.proofs.used.Used.after.Goals as goal
 

@@ -1,5 +1,4 @@
 -- `delega::used::Used::with_line` meets its contract.
-use borrow.Author.Rules.{rules}
 use Rattle.delega.proofs.used.Used.with_line.Goals as goal
 
 pub returns : goal.returns
