@@ -6,9 +6,7 @@ use lib.ListN.{take}
 use Rattle.judge.specs.declared.Judgement.{Judgement}
 use Rattle.judge.specs.declared.Verdict.TheVariants.{Accepted}
 use Rattle.judge.specs.Flow.{judged}
-use Rattle.correct.specs.Effect as Plain
 use Rattle.correct.specs.declared.Correction.{Correction}
-use Rattle.correct.specs.declared.Correction.TheVariants as Correction
 use Rattle.correct.proofs.StaysAccepted.{corrected-accepted}
 use Rattle.mend.specs.declared.Mending.{Mending}
 use Rattle.mend.specs.declared.Mending.TheVariants as Mend

@@ -1,34 +1,29 @@
 -- The three calls that take a record are guarded by it, each behind its own judgement.
 use Prim.Native.Nat.{ℕ, ◌<◌, ◌≤◌}
 use mathlib.Core.Path.{◌≡◌, refl, sym, ap, ◌∙◌}
-use mathlib.Core.Bool.{Bool, true, false, cond}
 use mathlib.Core.List.{List, []}
 use native.Mathlib.Omega.{arith}
 use lib.ListN.{length}
 use Rattle.judge.specs.declared.Judgement.{Judgement}
 use Rattle.judge.specs.declared.Verdict.{Verdict}
 use Rattle.judge.specs.declared.Verdict.TheVariants as Judge
-use Rattle.judge.specs.Refusal.{Refusal, refusal, no_refusal, refusal_of, judged_first}
+use Rattle.judge.specs.Refusal.{Refusal, no_refusal, refusal_of}
 use Rattle.judge.specs.Flow.{judged}
 use Rattle.judge.proofs.Turn.{judged-long}
 use Rattle.judge.proofs.FirstFault.{judgement-number, accepted-has-none}
 use Rattle.lenient.specs.declared.Lenient.{Lenient}
 use Rattle.lenient.specs.declared.Lenient.TheVariants as Leniently
-use Rattle.correct.specs.declared.Correction.{Correction}
 use Rattle.correct.specs.declared.Correction.TheVariants as Correct
 use Rattle.correct.specs.Correction.{correction_of}
 use Rattle.correct.specs.WhenRefused.{AsFlow}
 use Rattle.correct.proofs.Answered.{answered-exactly}
-use Rattle.mend.specs.declared.Mending.{Mending}
 use Rattle.mend.specs.declared.Mending.TheVariants as Mend
 use Rattle.mend.specs.Mending.{remaining, unless, weighed, mending_of}
 use Rattle.mend.proofs.Answering.{remaining-long}
 use Rattle.mend.proofs.Answered.{mending-number}
-use Rattle.dropping.specs.declared.Dropping.{Dropping}
 use Rattle.dropping.specs.declared.Dropping.TheVariants as Drop
 use Rattle.dropping.specs.Dropping.{dropping_of}
 use Rattle.sums.specs.declared.KeptSums.{KeptSums}
-use Rattle.sums.specs.LineSums.{stands_for}
 use Rattle.kept.specs.Keeping.{correction_with, mending_with, dropping_with}
 use Rattle.kept.specs.WhenRefused.{refusal_lenient}
 use Rattle.kept.proofs.Guarded.{Sort, none, some, Guarded}

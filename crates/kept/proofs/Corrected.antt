@@ -10,7 +10,6 @@ use Rattle.correct.proofs.Conditions.{refused-untouched}
 use Rattle.sums.specs.declared.KeptSums.{KeptSums}
 use Rattle.sums.specs.LineSums.{kept_of, stands_for}
 use Rattle.sums.specs.Inner.{matched}
-use Rattle.kept.specs.declared.CorrectionKept.{CorrectionKept}
 use Rattle.kept.specs.declared.Mismatch.{Mismatch}
 use Rattle.kept.specs.Keeping.{correction_with, corrected_with, kept_corrected, correction_kept}
 use Rattle.kept.specs.Inner.{mismatch_of}

@@ -11,7 +11,6 @@ use Rattle.dropping.proofs.Dropped.{dropped-room, refused-stays}
 use Rattle.sums.specs.declared.KeptSums.{KeptSums}
 use Rattle.sums.specs.LineSums.{kept_of, stands_for}
 use Rattle.sums.specs.Inner.{matched}
-use Rattle.kept.specs.declared.DroppingKept.{DroppingKept}
 use Rattle.kept.specs.declared.Mismatch.{Mismatch}
 use Rattle.kept.specs.Keeping.{dropping_with, dropped_with, kept_dropped, dropping_kept}
 use Rattle.kept.specs.Inner.{mismatch_of}

@@ -13,7 +13,6 @@ use Rattle.sums.specs.declared.KeptSums.{KeptSums}
 use Rattle.sums.specs.LineSums.{kept_of, stands_for}
 use Rattle.sums.specs.Inner.{matched}
 use Rattle.sums.proofs.Equality.{stands-exactly}
-use Rattle.kept.specs.declared.Mismatch.{Mismatch}
 use Rattle.kept.specs.Inner.{mismatch_of}
 use Rattle.kept.specs.WhenRefused.{Answers, AsJudged, Mismatched, AsPlain}
 

@@ -12,23 +12,20 @@ use Rattle.judge.specs.Plain.{zeros}
 use Rattle.judge.proofs.Zeros.{refused-zeros}
 use Rattle.correct.specs.declared.Correction.{Correction}
 use Rattle.correct.specs.declared.Correction.TheVariants as Correct
-use Rattle.correct.specs.Correction.{bytes_after, correction_of, corrected_bytes}
+use Rattle.correct.specs.Correction.{correction_of, corrected_bytes}
 use Rattle.correct.proofs.Conditions.{refused-untouched}
 use Rattle.mend.specs.declared.Mending.{Mending}
 use Rattle.mend.specs.declared.Mending.TheVariants as Mend
-use Rattle.mend.specs.Mending as Rebalancing
 use Rattle.mend.specs.Mending.{mending_of, mended_flow, mended_list}
 use Rattle.mend.proofs.MendedFlow as Rebalanced
 use Rattle.dropping.specs.declared.Dropping.{Dropping}
 use Rattle.dropping.specs.declared.Dropping.TheVariants as Drop
-use Rattle.dropping.specs.Dropping as Shortening
-use Rattle.dropping.specs.Dropping.{shortened, dropping_of, dropped_flow}
+use Rattle.dropping.specs.Dropping.{dropping_of, dropped_flow}
 use Rattle.dropping.proofs.Dropped as Shortened
 use Rattle.sums.specs.declared.KeptSums.{KeptSums}
 use Rattle.sums.specs.LineSums.{kept_of}
 use Rattle.sums.proofs.Adding.{accepted-sums}
 use Rattle.sums.proofs.Equality.{stands-exactly}
-use Rattle.kept.specs.declared.Keeping.{Keeping}
 use Rattle.kept.specs.declared.CorrectionKept.{CorrectionKept}
 use Rattle.kept.specs.declared.MendingKept.{MendingKept}
 use Rattle.kept.specs.declared.DroppingKept.{DroppingKept}

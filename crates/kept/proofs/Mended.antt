@@ -5,7 +5,7 @@ use mathlib.Core.Bool.{true, false}
 use mathlib.Core.List.{List}
 use Rattle.amounts.specs.declared.Sums.{Sums}
 use Rattle.judge.specs.declared.Judgement.{Judgement}
-use Rattle.judge.specs.Flow.{judged, records_of}
+use Rattle.judge.specs.Flow.{records_of}
 use Rattle.mend.specs.declared.Mending.{Mending}
 use Rattle.mend.specs.declared.Mending.TheVariants.{Mended, Refused}
 use Rattle.mend.specs.Mending.{flow_by, mending_of, mended_flow, mended_list}
@@ -15,7 +15,6 @@ use Rattle.sums.specs.LineSums.{kept_of, stands_for}
 use Rattle.sums.specs.Inner.{matched}
 use Rattle.sums.proofs.Adding.{sums-after, accepted-sums}
 use Rattle.sums.proofs.Equality.{stands-exactly}
-use Rattle.kept.specs.declared.MendingKept.{MendingKept}
 use Rattle.kept.specs.declared.Mismatch.{Mismatch}
 use Rattle.kept.specs.Keeping.{mending_with, mended_with, listed_with, kept_mended, mending_kept}
 use Rattle.kept.specs.Inner.{mismatch_of}

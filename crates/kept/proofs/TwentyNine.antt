@@ -1,14 +1,14 @@
 -- "29 for such a call": 29 is told exactly where the flow passes the call's own judgement and the record is not the flow's; otherwise answer, bytes and list are the plain call's.
 use Prim.Native.Nat.{ℕ}
-use mathlib.Core.Path.{◌≡◌, refl, sym, ap, ◌∙◌}
-use mathlib.Core.Bool.{true, false≢true}
+use mathlib.Core.Path.{◌≡◌, refl, ap, ◌∙◌}
+use mathlib.Core.Bool.{false≢true}
 use mathlib.Core.List.{List}
 use mathlib.Core.Logic.{◌↔◌}
 use native.Mathlib.Omega.{arith}
 use lib.ListN.{length}
 use Rattle.text.specs.Among.{among}
 use Rattle.judge.specs.declared.Verdict.TheVariants.{Accepted}
-use Rattle.judge.specs.Refusal.{Refusal, refusal, no_refusal}
+use Rattle.judge.specs.Refusal.{Refusal, refusal}
 use Rattle.judge.specs.Flow.{judged}
 use Rattle.judge.proofs.FirstFault.{judgement-number, accepted-has-none}
 use Rattle.lenient.specs.declared.Lenient.{Lenient}

@@ -7,10 +7,6 @@ use Rattle.dropping.specs.declared.Dropping.{Dropping}
 use Rattle.dropping.specs.declared.Dropping.TheVariants as Shorter
 use Rattle.sums.specs.declared.KeptSums.{KeptSums}
 use Rattle.sums.specs.LineSums.{kept_of}
-use Rattle.kept.specs.declared.Keeping.{Keeping}
-use Rattle.kept.specs.declared.CorrectionKept.{CorrectionKept}
-use Rattle.kept.specs.declared.MendingKept.{MendingKept}
-use Rattle.kept.specs.declared.DroppingKept.{DroppingKept}
 use Rattle.kept.specs.Keeping.{keeping, corrected_with, correction_kept, mended_with, mending_kept, dropping_with, dropped_with, dropping_kept}
 
 -- A flow, and the record beside it.

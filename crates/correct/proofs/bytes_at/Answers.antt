@@ -4,7 +4,6 @@ use native.Mathlib.Nat.{add-sub_cancel_left}
 use Prim.Native.Nat.{◌+◌, ◌≤◌}
 use Rattle.text.proofs.Bytes.{part_length}
 use Rattle.text.proofs.Fits.{copied}
-use borrow.Author.Rules.{rules}
 use Rattle.correct.proofs.bytes_at.Goals as goal
 
 pub returns : goal.returns

@@ -1,7 +1,6 @@
 -- `correct::correct` meets its contract: a flow's refusal and 21 are handed on, and of the line that was found the other tests give the answer.
 use Rattle.correct.proofs.Named.{found-line, corrected-at, corrected-not}
 use mathlib.Core.Path.{sym, ◌∙◌}
-use borrow.Author.Rules.{rules}
 use Rattle.correct.proofs.correct.Goals as goal
 
 pub try_line-requires : goal.try_line-requires

@@ -1,6 +1,5 @@
 -- `correct::put_amounts` meets its contract: the credit is put first and the debit over what that leaves.
 use Rattle.correct.proofs.Undone.{amounts-written}
-use borrow.Author.Rules.{rules}
 use Rattle.correct.proofs.put_amounts.Goals as goal
 
 pub returns : goal.returns

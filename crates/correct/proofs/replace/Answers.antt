@@ -8,7 +8,6 @@ use Rattle.correct.proofs.Undone.{restored, whole-amounts, weighed-by, made-fits
 use mathlib.Core.List.{List}
 use mathlib.Core.Path.{◌≡◌, sym, ap, ◌∙◌}
 use Prim.Native.Nat.{ℕ}
-use borrow.Author.Rules.{rules}
 use Rattle.correct.proofs.replace.Goals as goal
 use Rattle.correct.proofs.replace.Goals.{After-outcome-answer}
 

@@ -1,8 +1,6 @@
 -- `correct::section_of` meets its contract: a subtype that is not that of a section's lines has the number past the table.
 use Rattle.layout.proofs.OtherKinds.{no_line}
-use borrow.Author.Rules.{rules}
 use mathlib.Core.Path.{sym}
-
 use borrow.Enum.Refused.{opened}
 use Rattle.correct.proofs.section_of.Goals as goal
 

@@ -6,7 +6,6 @@ use Rattle.correct.proofs.Undone.{tried-debit, tried-credit, tried-wrong, tried-
 use Rattle.correct.proofs.Putting.{line-room}
 use native.Mathlib.Omega.{arith}
 use mathlib.Core.Path.{refl, sym, ◌∙◌}
-use borrow.Author.Rules.{rules}
 use Rattle.correct.proofs.try_line.Goals as goal
 
 pub returns-then-debit-gt-LARGEST : goal.returns-then-debit-gt-LARGEST

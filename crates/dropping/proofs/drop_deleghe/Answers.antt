@@ -5,7 +5,6 @@ use Rattle.judge.specs.declared.Judgement.{Judgement}
 use Rattle.judge.specs.declared.Verdict.TheVariants.{Accepted}
 use Rattle.dropping.specs.Dropping.{weighed}
 use Rattle.dropping.proofs.Answering.{answer-refused, answer-accepted}
-use borrow.Author.Rules.{rules}
 use Rattle.dropping.proofs.drop_deleghe.Goals as goal
 use Rattle.dropping.proofs.drop_deleghe.Goals.{In_default}
 

@@ -1,7 +1,6 @@
 -- `dropping::shorten` meets its contract.
 use Rattle.judge.proofs.Accepted.{accepted-means-no-fault}
 use Rattle.dropping.proofs.Answering.{front_length, front_fits, front-set}
-use borrow.Author.Rules.{rules}
 use Rattle.dropping.proofs.shorten.Goals as goal
 
 pub close_up-n-requires : goal.close_up-n-requires

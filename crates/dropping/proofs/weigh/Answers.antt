@@ -1,7 +1,6 @@
 -- `dropping::weigh` meets its contract.
 use mathlib.Core.Path.{refl, sym, ◌∙◌}
 use Rattle.dropping.proofs.Answering.{weighed-unnamed, weighed-none, may-drop, weighed-dropped}
-use borrow.Author.Rules.{rules}
 use Rattle.dropping.proofs.weigh.Goals as goal
 
 pub returns-then-not-once : goal.returns-then-not-once

@@ -1,12 +1,10 @@
 -- `kept::correct_kept` meets its contract.
-use mathlib.Core.Path.{◌≡◌, sym, ap, ◌∙◌}
+use mathlib.Core.Path.{sym, ap, ◌∙◌}
 use native.Mathlib.Omega.{arith}
 use lib.ListN.{length}
-use borrow.Author.Tests.{not-true, not-false}
 use Rattle.correct.proofs.StaysAccepted.{corrected-length}
 use Rattle.kept.proofs.Guarded.{matched-stands}
 use Rattle.kept.proofs.Corrected.{answer-none, answer-made, answer-plain}
-use borrow.Author.Rules.{rules}
 use Rattle.kept.proofs.correct_kept.Goals as goal
 
 pub returns-then-not-matches : goal.returns-then-not-matches

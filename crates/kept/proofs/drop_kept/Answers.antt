@@ -1,12 +1,10 @@
 -- `kept::drop_kept` meets its contract.
-use mathlib.Core.Path.{◌≡◌, sym, ap, ◌∙◌}
+use mathlib.Core.Path.{sym, ◌∙◌}
 use native.Mathlib.Omega.{arith}
-use borrow.Author.Tests.{not-true, not-false}
 use lib.ListN.{length-take}
 use Rattle.dropping.proofs.Dropped.{dropped-room, dropped-within}
 use Rattle.kept.proofs.Guarded.{matched-stands}
 use Rattle.kept.proofs.Dropped.{answer-none, answer-dropped, answer-plain}
-use borrow.Author.Rules.{rules}
 use Rattle.kept.proofs.drop_kept.Goals as goal
 
 pub returns-then-not-matches : goal.returns-then-not-matches

@@ -1,10 +1,7 @@
 -- `kept::keep` meets its contract.
 use mathlib.Core.Path.{ap}
 use Rattle.judge.specs.declared.Judgement.{Judgement}
-use Rattle.sums.specs.declared.KeptSums.{KeptSums}
-use Rattle.kept.specs.declared.Keeping.{Keeping}
 use Rattle.kept.specs.Keeping.{keeping}
-use borrow.Author.Rules.{rules}
 use Rattle.kept.proofs.keep.Goals as goal
 
 pub returns : goal.returns

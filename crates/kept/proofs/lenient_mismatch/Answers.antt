@@ -3,7 +3,6 @@ use mathlib.Core.Path.{sym, ap, ◌∙◌}
 use Rattle.kept.specs.WhenRefused.{refusal_lenient}
 use Rattle.kept.proofs.Guarded.{mismatch-none, mismatch-some}
 use Rattle.kept.proofs.Calls.{remaining-number}
-use borrow.Author.Rules.{rules}
 use Rattle.kept.proofs.lenient_mismatch.Goals as goal
 
 pub returns-in-Passed : goal.returns-in-Passed

@@ -1,10 +1,7 @@
 -- `kept::rebalance_kept` meets its contract.
-use mathlib.Core.Path.{◌≡◌, sym, ap, ◌∙◌}
-use native.Mathlib.Omega.{arith}
-use borrow.Author.Tests.{not-true, not-false}
+use mathlib.Core.Path.{sym, ◌∙◌}
 use Rattle.kept.proofs.Guarded.{matched-stands}
 use Rattle.kept.proofs.Mended.{answer-none, answer-plain}
-use borrow.Author.Rules.{rules}
 use Rattle.kept.proofs.rebalance_kept.Goals as goal
 
 pub returns-then-not-matches : goal.returns-then-not-matches

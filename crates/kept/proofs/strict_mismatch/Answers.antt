@@ -1,11 +1,9 @@
 -- `kept::strict_mismatch` meets its contract.
 use mathlib.Core.Path.{sym, ap, ◌∙◌}
 use Rattle.judge.specs.declared.Judgement.{Judgement}
-use Rattle.judge.specs.declared.Verdict.{Verdict}
 use Rattle.judge.specs.Refusal.{refusal_of}
 use Rattle.judge.proofs.FirstFault.{judgement-number}
 use Rattle.kept.proofs.Guarded.{mismatch-none, mismatch-some}
-use borrow.Author.Rules.{rules}
 use Rattle.kept.proofs.strict_mismatch.Goals as goal
 
 pub returns-in-Accepted : goal.returns-in-Accepted

@@ -1,7 +1,6 @@
 -- `mend::first_remaining` meets its contract.
 use mathlib.Core.Path.{sym, ◌∙◌}
 use Rattle.mend.proofs.Answering.{remaining-long, remaining-none, remaining-ragged, remaining-whole}
-use borrow.Author.Rules.{rules}
 use Rattle.mend.proofs.first_remaining.Goals as goal
 
 pub returns-then-n-gt-MOST_BYTES : goal.returns-then-n-gt-MOST_BYTES

@@ -1,7 +1,6 @@
 -- `mend::mend` meets its contract.
 use mathlib.Core.Path.{sym, ◌∙◌}
 use Rattle.mend.proofs.Answering.{answer-refused, answer-passed, passed-whole}
-use borrow.Author.Rules.{rules}
 use Rattle.mend.proofs.mend.Goals as goal
 
 pub weigh-requires : goal.weigh-requires

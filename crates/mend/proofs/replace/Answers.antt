@@ -1,6 +1,5 @@
 -- `mend::replace` meets its contract.
 use Rattle.mend.proofs.Replaced.{beside, list-short, list-long}
-use borrow.Author.Rules.{rules}
 use Rattle.mend.proofs.replace.Goals as goal
 
 pub rebalance-requires : goal.rebalance-requires

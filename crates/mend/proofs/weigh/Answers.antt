@@ -3,7 +3,6 @@ use mathlib.Core.Path.{sym, ap}
 use lib.Dec.{lit≤}
 use lib.ListN.{length}
 use Rattle.mend.proofs.Replaced.{weigh-unfit, weigh-fits, copied, copy_is}
-use borrow.Author.Rules.{rules}
 use Rattle.mend.proofs.weigh.Goals as goal
 
 pub slice_bounds-replace-end : goal.slice_bounds-replace-end
