@@ -34,8 +34,8 @@ find_rustc() {
     fail "no rustc with the x86-64 standard library. On Debian: dpkg --add-architecture amd64 && apt-get update && apt-get install rustc libstd-rust-dev:amd64"
 }
 
-# target/staticlib/libf24.a, proved and built where it is missing or older than its sources. F24_ARCHIVE may name
-# an archive that is taken as it is.
+# target/staticlib/libf24.a, proved and built where it is missing or older than its sources: what `rt lib` makes of the
+# crate f24_c, under the name that C callers link. F24_ARCHIVE may name an archive that is taken as it is.
 find_archive() {
     archive=${F24_ARCHIVE:-}
     if [ "$archive" ]; then
@@ -44,16 +44,16 @@ find_archive() {
     fi
     archive=$root/target/staticlib/libf24.a
     if [ -f "$archive" ]; then
-        newer=$(find "$root/crates" "$root/crates.txt" -newer "$archive" \( -name '*.rt' -o -name '*.antt' -o -name crates.txt \) -print | head -n 1)
+        newer=$(find "$root/crates" "$root/crates.txt" -name out -prune -o -newer "$archive" \( -name '*.rt' -o -name '*.antt' -o -name crates.txt \) -print | head -n 1)
         [ "$newer" ] || return 0
     fi
     command -v rt >/dev/null 2>&1 || fail "the Rattle kit's command rt is not on the path"
     printf 'compare: building the library, which is proved first\n' >&2
-    (cd "$root" && rt staticlib f24) >"$out/staticlib.log" 2>&1 || {
+    (cd "$root/crates/f24_c" && rt lib) >"$out/staticlib.log" 2>&1 || {
         tail -n 5 "$out/staticlib.log" >&2
         fail "the build failed: target/compare/staticlib.log has it whole"
     }
-    touch "$archive"
+    mkdir -p "$root/target/staticlib" && cp "$root/crates/f24_c/out/libf24_c.a" "$archive" || exit 2
 }
 
 # judges TO [OPTION..]: the reference and the fast judge, as TO/libreference.rlib and TO/libfast.rlib.

@@ -9,8 +9,7 @@ use ep::EpAnswer;
 const EP_ROOM: usize = 2;
 
 // Judges the records M and V of the form. The answer is the number of M and the sum of their totals.
-#[unsafe(no_mangle)]
-pub extern "C" fn f24_ep_judge(records: &[u8], answer: &mut [u64]) -> u64
+pub fn f24_ep_judge(records: &[u8], answer: &mut [u64]) -> u64
     ensures { (result ≡ ep_code records.now answer.old)
         × (answer.new ≡ ep_room records.now answer.old) }
 {

@@ -19,8 +19,7 @@ const SUMS_ROOM: usize = 10;
 const ANSWER_ROOM: usize = 2;
 
 // Judges a flow. Where it is accepted, the record of its ten sums is written, and nothing to the answer.
-#[unsafe(no_mangle)]
-pub extern "C" fn f24_kept(flow: &[u8], kept: &mut [u64], answer: &mut [u64]) -> u64
+pub fn f24_kept(flow: &[u8], kept: &mut [u64], answer: &mut [u64]) -> u64
     ensures { (result ≡ kept_code flow.now kept.old answer.old)
         × (kept.new ≡ kept_record flow.now kept.old answer.old)
         × (answer.new ≡ kept_answer flow.now kept.old answer.old) }
@@ -44,8 +43,7 @@ pub extern "C" fn f24_kept(flow: &[u8], kept: &mut [u64], answer: &mut [u64]) ->
 }
 
 // Gives one line of a flow a new debit and credit. Where that is done, the record of the flow as it is then is written, and nothing to the answer.
-#[unsafe(no_mangle)]
-pub extern "C" fn f24_correct_kept(
+pub fn f24_correct_kept(
     flow: &mut [u8],
     delega: u64,
     subtype: u64,
@@ -92,8 +90,7 @@ pub extern "C" fn f24_correct_kept(
 }
 
 // Rebalances a flow, and lists each field that changed by record and start, two numbers for each. The answer is how many these are.
-#[unsafe(no_mangle)]
-pub extern "C" fn f24_rebalance_kept(
+pub fn f24_rebalance_kept(
     flow: &mut [u8],
     changed: &mut [u64],
     kept: &mut [u64],
@@ -131,13 +128,7 @@ pub extern "C" fn f24_rebalance_kept(
 }
 
 // Drops the deleghe with these numbers from a flow. The answer is the new length of the flow; the record of the flow that is left is written.
-#[unsafe(no_mangle)]
-pub extern "C" fn f24_drop_kept(
-    flow: &mut [u8],
-    numbers: &[u64],
-    kept: &mut [u64],
-    answer: &mut [u64],
-) -> u64
+pub fn f24_drop_kept(flow: &mut [u8], numbers: &[u64], kept: &mut [u64], answer: &mut [u64]) -> u64
     ensures { (result ≡ drop_kept_code flow.old numbers.now kept.old answer.old)
         × (flow.new ≡ drop_kept_flow flow.old numbers.now kept.old answer.old)
         × (kept.new ≡ drop_kept_record flow.old numbers.now kept.old answer.old)

@@ -3,10 +3,11 @@
 // records of the F24 EP form.
 // Each function returns 0, the number of a refusal, or 100 where a room is too short; the judgement by portions also 101 where it has not ended and 102 where it is
 // given a foreign state. The numbers behind those that a function writes stay as they came.
+// C calls them by the crate `f24_c`, which exports each under its name.
 #![tactic(auto)]
 
-mod ep_calls;
-mod kept_calls;
+pub mod ep_calls;
+pub mod kept_calls;
 
 ghost use Rattle.std.specs.Prelude.{◌≡◌};
 ghost use Rattle.portion.specs.Portion.{start_progress};
@@ -49,8 +50,7 @@ const PORTION_ROOM: usize = 15;
 const STATE_ROOM: usize = 53;
 
 // Judges a flow. The answer is the number of deleghe and of records, the total, the number of lines, and the debit and credit of each section.
-#[unsafe(no_mangle)]
-pub extern "C" fn f24_judge(flow: &[u8], answer: &mut [u64]) -> u64
+pub fn f24_judge(flow: &[u8], answer: &mut [u64]) -> u64
     ensures { (result ≡ judge_code flow.now answer.old)
         × (answer.new ≡ judge_room flow.now answer.old) }
 {
@@ -69,8 +69,7 @@ pub extern "C" fn f24_judge(flow: &[u8], answer: &mut [u64]) -> u64
 }
 
 // The final balance of the delega with this number, its lines, its set of sections and the size of it, and the debit and credit of each of its sections.
-#[unsafe(no_mangle)]
-pub extern "C" fn f24_delega(flow: &[u8], number: u64, answer: &mut [u64]) -> u64
+pub fn f24_delega(flow: &[u8], number: u64, answer: &mut [u64]) -> u64
     ensures { (result ≡ delega_code flow.now number answer.old)
         × (answer.new ≡ delega_room flow.now number answer.old) }
 {
@@ -89,14 +88,7 @@ pub extern "C" fn f24_delega(flow: &[u8], number: u64, answer: &mut [u64]) -> u6
 }
 
 // The number, counted from 1, of the record of one line.
-#[unsafe(no_mangle)]
-pub extern "C" fn f24_find(
-    flow: &[u8],
-    delega: u64,
-    subtype: u64,
-    nth: u64,
-    answer: &mut [u64],
-) -> u64
+pub fn f24_find(flow: &[u8], delega: u64, subtype: u64, nth: u64, answer: &mut [u64]) -> u64
     ensures { (result ≡ find_code flow.now delega subtype nth answer.old)
         × (answer.new ≡ find_room flow.now delega subtype nth answer.old) }
 {
@@ -117,8 +109,7 @@ pub extern "C" fn f24_find(
 }
 
 // Gives one line of a flow a new debit and credit. Nothing is written to the room where that is done.
-#[unsafe(no_mangle)]
-pub extern "C" fn f24_correct(
+pub fn f24_correct(
     flow: &mut [u8],
     delega: u64,
     subtype: u64,
@@ -144,8 +135,7 @@ pub extern "C" fn f24_correct(
 }
 
 // Writes the flow of a working sheet into the room that the caller lends. The answer is its length.
-#[unsafe(no_mangle)]
-pub extern "C" fn f24_write(sheet: &[u8], room: &mut [u8], answer: &mut [u64]) -> u64
+pub fn f24_write(sheet: &[u8], room: &mut [u8], answer: &mut [u64]) -> u64
     ensures { (result ≡ write_code sheet.now room.old answer.old)
         × (room.new ≡ write_room sheet.now room.old answer.old)
         × (answer.new ≡ write_answer sheet.now room.old answer.old) }
@@ -167,8 +157,7 @@ pub extern "C" fn f24_write(sheet: &[u8], room: &mut [u8], answer: &mut [u64]) -
 }
 
 // Rebalances a flow, and lists each field that changed by record and start, two numbers for each. The answer is how many these are.
-#[unsafe(no_mangle)]
-pub extern "C" fn f24_rebalance(flow: &mut [u8], changed: &mut [u64], answer: &mut [u64]) -> u64
+pub fn f24_rebalance(flow: &mut [u8], changed: &mut [u64], answer: &mut [u64]) -> u64
     ensures { (result ≡ rebalance_code flow.old changed.old answer.old)
         × (flow.new ≡ rebalance_flow flow.old changed.old answer.old)
         × (changed.new ≡ rebalance_list flow.old changed.old answer.old)
@@ -191,8 +180,7 @@ pub extern "C" fn f24_rebalance(flow: &mut [u8], changed: &mut [u64], answer: &m
 }
 
 // Drops the deleghe with these numbers from a flow. The answer is the new length of the flow; spaces stand behind it.
-#[unsafe(no_mangle)]
-pub extern "C" fn f24_drop(flow: &mut [u8], numbers: &[u64], answer: &mut [u64]) -> u64
+pub fn f24_drop(flow: &mut [u8], numbers: &[u64], answer: &mut [u64]) -> u64
     ensures { (result ≡ drop_code flow.old numbers.now answer.old)
         × (flow.new ≡ drop_flow flow.old numbers.now answer.old)
         × (answer.new ≡ drop_answer flow.old numbers.now answer.old) }
@@ -214,8 +202,7 @@ pub extern "C" fn f24_drop(flow: &mut [u8], numbers: &[u64], answer: &mut [u64])
 }
 
 // The state from which a judgement by portions starts.
-#[unsafe(no_mangle)]
-pub extern "C" fn f24_start(state: &mut [u64]) -> u64
+pub fn f24_start(state: &mut [u64]) -> u64
     ensures { (result ≡ code_or 53 state.old 0)
         × (state.new ≡ room_or 53 state.old (progress_numbers start_progress)) }
 {
@@ -229,13 +216,7 @@ pub extern "C" fn f24_start(state: &mut [u64]) -> u64
 
 // Judges at most so many records of a flow, from the state that is lent, which is then the one after them. The answer is the number of records examined so far,
 // and behind it, where the judgement has ended, what `f24_judge` writes.
-#[unsafe(no_mangle)]
-pub extern "C" fn f24_judge_portion(
-    flow: &[u8],
-    portion: u64,
-    state: &mut [u64],
-    answer: &mut [u64],
-) -> u64
+pub fn f24_judge_portion(flow: &[u8], portion: u64, state: &mut [u64], answer: &mut [u64]) -> u64
     ensures { (result ≡ portion_code flow.now portion state.old answer.old)
         × (state.new ≡ portion_state flow.now portion state.old answer.old)
         × (answer.new ≡ portion_room flow.now portion state.old answer.old) }

@@ -1,0 +1,23 @@
+-- `f24::f24_ep_judge` meets its contract: a room that is too short stays as it came, and a longer one holds the acceptance or the refusal.
+use mathlib.Core.Path.{sym, ◌∙◌}
+use Rattle.f24.specs.LinkedEp.{ep_code, ep_room}
+use Rattle.f24.proofs.Rooms.{short-code, short-room, long-code, long-room}
+use Rattle.f24.proofs.ep_calls.f24_ep_judge.Goals as goal
+
+pub returns-then-answer-lt-EP_ROOM : goal.returns-then-answer-lt-EP_ROOM
+unfolding ep_code ep_room
+returns-then-answer-lt-EP_ROOM c = (short-code _ _ c.if-answer-lt-EP_ROOM.true, short-room _ _ c.if-answer-lt-EP_ROOM.true)
+
+pub returns-in-Accepted : goal.returns-in-Accepted
+unfolding ep_code ep_room
+returns-in-Accepted c =
+    let e = sym c.ep_judge.ensures ∙ c.in-Accepted.is in
+    let h = c.if-answer-lt-EP_ROOM.false in
+    (long-code _ h (rw e), rw e (long-room _ _ h c.put.ensures))
+
+pub returns-in-Refused : goal.returns-in-Refused
+unfolding ep_code ep_room
+returns-in-Refused c =
+    let e = sym c.ep_judge.ensures ∙ c.in-Refused.is in
+    let h = c.if-answer-lt-EP_ROOM.false in
+    (long-code _ h (rw e), rw e (long-room _ _ h c.put_refusal.ensures))

@@ -1,0 +1,26 @@
+use mathlib.Core.Path.{refl, ap, ◌∙◌}
+use borrow.Author.Tests.{lt-ltb, le-ltb}
+use Rattle.portion.specs.declared.Portion.{Portion}
+use Rattle.portion.specs.Portion.{portioned}
+use Rattle.state.specs.Numbers.{overlay}
+use Rattle.answers.specs.Numbers.{course_code, portion_numbers, handed_back}
+use Rattle.f24.specs.Linked.{code_or, room_or, portion_code, portion_state, portion_room}
+use Rattle.f24.proofs.f24_judge_portion.Goals as goal
+
+pub returns-then-state-lt-STATE_ROOM : goal.returns-then-state-lt-STATE_ROOM
+unfolding portion_code portion_state portion_room code_or
+returns-then-state-lt-STATE_ROOM c = rw (lt-ltb _ _ c.if-state-lt-STATE_ROOM.true) (refl, refl, refl)
+
+pub returns-then-answer-lt-PORTION_ROOM : goal.returns-then-answer-lt-PORTION_ROOM
+unfolding portion_code portion_state portion_room code_or room_or
+returns-then-answer-lt-PORTION_ROOM c = rw (le-ltb _ _ c.if-state-lt-STATE_ROOM.false, lt-ltb _ _ c.if-answer-lt-PORTION_ROOM.true) (refl, refl, refl)
+
+pub returns : goal.returns
+unfolding portion_code portion_state portion_room code_or room_or
+returns c =
+    let e = c.judge_portion-part.ensures ∙ ap (portioned c.args.flow.now c.args.portion) c.progress_in-from.ensures in
+    rw (le-ltb _ _ c.if-state-lt-STATE_ROOM.false, le-ltb _ _ c.if-answer-lt-PORTION_ROOM.false) (
+      c.course_code.ensures ∙ ap (λ (a : Portion). course_code a.answer) e,
+      c.hand_back.ensures ∙ ap (λ (a : Portion). handed_back a c.args.state.now) e,
+      c.put_portion.ensures ∙ ap (λ (a : Portion). overlay (portion_numbers a) c.args.answer.now) e,
+    )

@@ -1,0 +1,37 @@
+-- `f24::f24_drop_kept` meets its contract: where a room is too short all stays as it came; else the flow is what `drop_kept` leaves, the record's room holds the record
+-- that it hands back, and the answer's the new length or the refusal.
+use mathlib.Core.Path.{refl, sym, ap, ◌∙◌}
+use native.Mathlib.Omega.{arith}
+use Rattle.dropping.specs.Dropping.{refusal_dropped}
+use Rattle.kept.specs.declared.DroppingKept.{DroppingKept}
+use Rattle.kept.specs.Keeping.{dropping_kept}
+use Rattle.kept.proofs.Answered.{dropping-number}
+use Rattle.f24.specs.LinkedKept.{drop_kept_code, drop_kept_flow, drop_kept_record, drop_kept_answer}
+use Rattle.f24.proofs.RecordRooms.{short-record, short-answer, long-enough, done-leaves, refused-leaves, beside-flow}
+use Rattle.f24.proofs.kept_calls.f24_drop_kept.Goals as goal
+
+pub returns-then-kept-lt-SUMS_ROOM : goal.returns-then-kept-lt-SUMS_ROOM
+unfolding drop_kept_code drop_kept_flow drop_kept_record drop_kept_answer
+returns-then-kept-lt-SUMS_ROOM c = let a = c.args in rw (short-record a.kept.now a.answer.now (omega (arith, c.if-kept-lt-SUMS_ROOM.true))) (refl, refl, refl, refl)
+
+pub returns-then-answer-lt-ANSWER_ROOM : goal.returns-then-answer-lt-ANSWER_ROOM
+unfolding drop_kept_code drop_kept_flow drop_kept_record drop_kept_answer
+returns-then-answer-lt-ANSWER_ROOM c = let a = c.args in rw (short-answer a.kept.now a.answer.now (omega (arith, c.if-kept-lt-SUMS_ROOM.false)) (omega (arith, c.if-answer-lt-ANSWER_ROOM.true))) (refl, refl, refl, refl)
+
+pub returns-in-Dropped : goal.returns-in-Dropped
+unfolding drop_kept_code drop_kept_flow drop_kept_record drop_kept_answer
+returns-in-Dropped c =
+    let a = c.args in
+    let long = long-enough a.kept.now a.answer.now (omega (arith, c.if-kept-lt-SUMS_ROOM.false)) (omega (arith, c.if-answer-lt-ANSWER_ROOM.false)) in
+    let d = rw c.sums_at-sums.ensures at c.drop_kept-done.ensures in
+    let e = ap (λ (a : DroppingKept). a.answer) (sym d.0) ∙ c.in-Dropped.is in
+    beside-flow _ _ long _ _ _ _ d.1 (done-leaves _ _ long _ _ _ (ap refusal_dropped e) (ap (λ (a : DroppingKept). a.kept) d.0) c.put_sums.ensures (rw e c.put.ensures))
+
+pub returns-in-Refused : goal.returns-in-Refused
+unfolding drop_kept_code drop_kept_flow drop_kept_record drop_kept_answer dropping_kept
+returns-in-Refused c =
+    let a = c.args in
+    let long = long-enough a.kept.now a.answer.now (omega (arith, c.if-kept-lt-SUMS_ROOM.false)) (omega (arith, c.if-answer-lt-ANSWER_ROOM.false)) in
+    let d = rw c.sums_at-sums.ensures at c.drop_kept-done.ensures in
+    let e = ap (λ (a : DroppingKept). a.answer) (sym d.0) ∙ c.in-Refused.is in
+    beside-flow _ _ long _ _ _ _ d.1 (refused-leaves _ _ long _ _ _ _ _ _ (ap refusal_dropped e) (dropping-number _ _ _ e) c.put_refusal.ensures)

@@ -1,0 +1,37 @@
+-- `f24::f24_rebalance_kept` meets its contract: where a room is too short all stays as it came; else flow and list are what `rebalance_kept` leaves, the record's room
+-- holds the record that it hands back, and the answer's the number of fields listed or the refusal.
+use mathlib.Core.Path.{refl, sym, ap, ◌∙◌}
+use native.Mathlib.Omega.{arith}
+use Rattle.mend.specs.Mending.{refusal_mended}
+use Rattle.kept.specs.declared.MendingKept.{MendingKept}
+use Rattle.kept.specs.Keeping.{mending_kept}
+use Rattle.kept.proofs.Answered.{mending-number}
+use Rattle.f24.specs.LinkedKept.{rebalance_kept_code, rebalance_kept_flow, rebalance_kept_list, rebalance_kept_record, rebalance_kept_answer}
+use Rattle.f24.proofs.RecordRooms.{short-record, short-answer, long-enough, done-leaves, refused-leaves, beside-list}
+use Rattle.f24.proofs.kept_calls.f24_rebalance_kept.Goals as goal
+
+pub returns-then-kept-lt-SUMS_ROOM : goal.returns-then-kept-lt-SUMS_ROOM
+unfolding rebalance_kept_code rebalance_kept_flow rebalance_kept_list rebalance_kept_record rebalance_kept_answer
+returns-then-kept-lt-SUMS_ROOM c = let a = c.args in rw (short-record a.kept.now a.answer.now (omega (arith, c.if-kept-lt-SUMS_ROOM.true))) (refl, refl, refl, refl, refl)
+
+pub returns-then-answer-lt-ANSWER_ROOM : goal.returns-then-answer-lt-ANSWER_ROOM
+unfolding rebalance_kept_code rebalance_kept_flow rebalance_kept_list rebalance_kept_record rebalance_kept_answer
+returns-then-answer-lt-ANSWER_ROOM c = let a = c.args in rw (short-answer a.kept.now a.answer.now (omega (arith, c.if-kept-lt-SUMS_ROOM.false)) (omega (arith, c.if-answer-lt-ANSWER_ROOM.true))) (refl, refl, refl, refl, refl)
+
+pub returns-in-Mended : goal.returns-in-Mended
+unfolding rebalance_kept_code rebalance_kept_flow rebalance_kept_list rebalance_kept_record rebalance_kept_answer
+returns-in-Mended c =
+    let a = c.args in
+    let long = long-enough a.kept.now a.answer.now (omega (arith, c.if-kept-lt-SUMS_ROOM.false)) (omega (arith, c.if-answer-lt-ANSWER_ROOM.false)) in
+    let d = rw c.sums_at-sums.ensures at c.rebalance_kept-done.ensures in
+    let e = ap (λ (a : MendingKept). a.answer) (sym d.0) ∙ c.in-Mended.is in
+    beside-list _ _ long _ _ _ _ _ d.1 d.2 (done-leaves _ _ long _ _ _ (ap refusal_mended e) (ap (λ (a : MendingKept). a.kept) d.0) c.put_sums.ensures (rw e c.put.ensures))
+
+pub returns-in-Refused : goal.returns-in-Refused
+unfolding rebalance_kept_code rebalance_kept_flow rebalance_kept_list rebalance_kept_record rebalance_kept_answer mending_kept
+returns-in-Refused c =
+    let a = c.args in
+    let long = long-enough a.kept.now a.answer.now (omega (arith, c.if-kept-lt-SUMS_ROOM.false)) (omega (arith, c.if-answer-lt-ANSWER_ROOM.false)) in
+    let d = rw c.sums_at-sums.ensures at c.rebalance_kept-done.ensures in
+    let e = ap (λ (a : MendingKept). a.answer) (sym d.0) ∙ c.in-Refused.is in
+    beside-list _ _ long _ _ _ _ _ d.1 d.2 (refused-leaves _ _ long _ _ _ _ _ _ (ap refusal_mended e) (mending-number _ _ _ e) c.put_refusal.ensures)

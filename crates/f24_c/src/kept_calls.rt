@@ -1,0 +1,69 @@
+// The exports that take the record of ten sums kept beside a flow, in a room of numbers that the caller lends.
+ghost use Rattle.std.specs.Prelude.{◌≡◌};
+ghost use Rattle.f24.specs.LinkedKept.{kept_code, kept_record, kept_answer};
+ghost use Rattle.f24.specs.LinkedKept.{correct_kept_code, correct_kept_flow, correct_kept_record, correct_kept_answer};
+ghost use Rattle.f24.specs.LinkedKept.{rebalance_kept_code, rebalance_kept_flow, rebalance_kept_list, rebalance_kept_record, rebalance_kept_answer};
+ghost use Rattle.f24.specs.LinkedKept.{drop_kept_code, drop_kept_flow, drop_kept_record, drop_kept_answer};
+
+// Judges a flow. Where it is accepted, the record of its ten sums is written, and nothing to the answer.
+#[unsafe(no_mangle)]
+pub extern "C" fn f24_kept(flow: &[u8], kept: &mut [u64], answer: &mut [u64]) -> u64
+    ensures { (result ≡ kept_code flow.now kept.old answer.old)
+        × (kept.new ≡ kept_record flow.now kept.old answer.old)
+        × (answer.new ≡ kept_answer flow.now kept.old answer.old) }
+{
+    f24::kept_calls::f24_kept(flow, kept, answer)
+}
+
+// Gives one line of a flow a new debit and credit. Where that is done, the record of the flow as it is then is written, and nothing to the answer.
+#[unsafe(no_mangle)]
+pub extern "C" fn f24_correct_kept(
+    flow: &mut [u8],
+    delega: u64,
+    subtype: u64,
+    nth: u64,
+    debit: u64,
+    credit: u64,
+    kept: &mut [u64],
+    answer: &mut [u64],
+) -> u64
+    ensures { (result ≡ correct_kept_code flow.old delega subtype nth debit credit kept.old answer.old)
+        × (flow.new ≡ correct_kept_flow flow.old delega subtype nth debit credit kept.old answer.old)
+        × (kept.new ≡ correct_kept_record flow.old delega subtype nth debit credit kept.old answer.old)
+        × (answer.new ≡ correct_kept_answer flow.old delega subtype nth debit credit kept.old answer.old) }
+{
+    f24::kept_calls::f24_correct_kept(flow, delega, subtype, nth, debit, credit, kept, answer)
+}
+
+// Rebalances a flow, and lists each field that changed by record and start, two numbers for each. The answer is how many these are.
+#[unsafe(no_mangle)]
+pub extern "C" fn f24_rebalance_kept(
+    flow: &mut [u8],
+    changed: &mut [u64],
+    kept: &mut [u64],
+    answer: &mut [u64],
+) -> u64
+    ensures { (result ≡ rebalance_kept_code flow.old changed.old kept.old answer.old)
+        × (flow.new ≡ rebalance_kept_flow flow.old changed.old kept.old answer.old)
+        × (changed.new ≡ rebalance_kept_list flow.old changed.old kept.old answer.old)
+        × (kept.new ≡ rebalance_kept_record flow.old changed.old kept.old answer.old)
+        × (answer.new ≡ rebalance_kept_answer flow.old changed.old kept.old answer.old) }
+{
+    f24::kept_calls::f24_rebalance_kept(flow, changed, kept, answer)
+}
+
+// Drops the deleghe with these numbers from a flow. The answer is the new length of the flow; the record of the flow that is left is written.
+#[unsafe(no_mangle)]
+pub extern "C" fn f24_drop_kept(
+    flow: &mut [u8],
+    numbers: &[u64],
+    kept: &mut [u64],
+    answer: &mut [u64],
+) -> u64
+    ensures { (result ≡ drop_kept_code flow.old numbers.now kept.old answer.old)
+        × (flow.new ≡ drop_kept_flow flow.old numbers.now kept.old answer.old)
+        × (kept.new ≡ drop_kept_record flow.old numbers.now kept.old answer.old)
+        × (answer.new ≡ drop_kept_answer flow.old numbers.now kept.old answer.old) }
+{
+    f24::kept_calls::f24_drop_kept(flow, numbers, kept, answer)
+}
