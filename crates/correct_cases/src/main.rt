@@ -6,10 +6,10 @@
 
 use correct::Correction;
 use desk::Numbers;
-use libc::STDOUT_FILENO;
+use std::fs::File;
 
 // Makes a call, and prints what comes of it.
-fn make(flow: &mut [u8], expected: &[u8], call: Numbers) {
+fn make(rt: &HostRuntime, flow: &mut [u8], expected: &[u8], call: Numbers) {
     match correct::correct(
         &mut *flow,
         call.first,
@@ -19,40 +19,39 @@ fn make(flow: &mut [u8], expected: &[u8], call: Numbers) {
         call.fifth,
     ) {
         Correction::Made => {
-            io::write_all(STDOUT_FILENO, b"MADE\n");
-            desk::print_comparison(flow, expected);
-            desk::print_judgement(judge::judge(flow));
+            desk::print_bytes(rt, b"MADE\n");
+            desk::print_comparison(rt, flow, expected);
+            desk::print_judgement(rt, judge::judge(flow));
         }
         Correction::Refused(number, at, position) => {
-            desk::print_refusal(number, at, position);
-            desk::print_comparison(flow, expected);
+            desk::print_refusal(rt, number, at, position);
+            desk::print_comparison(rt, flow, expected);
         }
     }
 }
 
 // One case; false where there is none left.
-fn one_case(fd: i32) -> bool {
+fn one_case(rt: &HostRuntime, cases: &mut File) -> bool {
     let mut head = [0u8; 153];
     let mut flow = [0u8; 65522];
     let mut expected = [0u8; 65522];
-    let got = desk::next_case(fd, &mut head, &mut flow);
-    if got < 0 {
+    let Some(n) = desk::next_case(rt, cases, &mut head, &mut flow) else {
+        return false;
+    };
+    if !desk::read_next(cases, &mut expected, n) {
         return false;
     }
-    let n = io::count(got, &flow);
-    if !desk::read_next(fd, &mut expected, n) {
-        return false;
-    }
-    make(&mut flow[0..n], &expected[0..n], desk::numbers_of(head));
+    make(rt, &mut flow[0..n], &expected[0..n], desk::numbers_of(head));
     true
 }
 
-fn main() {
-    let fd = desk::open_cases(b"calls");
+fn main(rt: HostRuntime) {
+    let Some(mut cases) = desk::open_cases(&rt, b"calls") else {
+        return;
+    };
     for _ in 0..desk::MOST_CASES {
-        if !one_case(fd) {
+        if !one_case(&rt, &mut cases) {
             break;
         }
     }
-    libc::close(fd);
 }

@@ -4,7 +4,6 @@
 
 use judge::Verdict;
 use layout::Position;
-use libc::STDOUT_FILENO;
 
 // The refusal's number, record and position; zeros where the flow is accepted.
 #[derive(Clone, Copy)]
@@ -46,40 +45,40 @@ fn date_at(i: u64) -> u64 {
 }
 
 // A date in its six digits, and its answer.
-fn print_answer(date: u64, answer: Answer) {
+fn print_answer(rt: &HostRuntime, date: u64, answer: Answer) {
     let mut digits = [0u8; 6];
     text::put_number(&mut digits, 0, 6, date);
-    io::write_all(STDOUT_FILENO, &digits);
+    desk::print_bytes(rt, &digits);
     if answer.number == 0 {
-        io::write_all(STDOUT_FILENO, b" ACCEPTED\n");
+        desk::print_bytes(rt, b" ACCEPTED\n");
         return;
     }
-    io::write_all(STDOUT_FILENO, b" ");
-    desk::print_refusal(answer.number, answer.at, answer.position);
+    desk::print_bytes(rt, b" ");
+    desk::print_refusal(rt, answer.number, answer.at, answer.position);
 }
 
 // The answer to a flow with this date; printed where it is another than the one before.
-fn ask(flow: &mut [u8], date: u64, before: Answer) -> Answer {
+fn ask(rt: &HostRuntime, flow: &mut [u8], date: u64, before: Answer) -> Answer {
     text::put_number(&mut *flow, Position::CREATION_DATE - 1, 6, date);
     let answer = answer_to(flow);
     if !is_same(before, answer) {
-        print_answer(date, answer);
+        print_answer(rt, date, answer);
     }
     answer
 }
 
 // No flow is refused with number 99, so the first answer is printed.
-fn main() {
+fn main(rt: HostRuntime) {
     let mut flow = [0u8; 960];
-    let fd = desk::open_cases(b"flow");
-    io::read_full(fd, &mut flow);
-    libc::close(fd);
+    if let Some(mut file) = desk::open_cases(&rt, b"flow") {
+        desk::read_full(&mut file, &mut flow);
+    }
     let mut answer = Answer {
         number: 99,
         at: 0,
         position: 0,
     };
     for i in 0..1000000 {
-        answer = ask(&mut flow, date_at(i), answer);
+        answer = ask(&rt, &mut flow, date_at(i), answer);
     }
 }

@@ -1,4 +1,3 @@
-pub mod Counted
 pub mod Lengths
 pub mod Listed
 pub mod Marked

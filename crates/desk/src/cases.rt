@@ -1,22 +1,27 @@
 // Run cases: a header with a name, the numbers of a call and the length of a flow; then the flow, and a line end.
-ghost use Rattle.std.specs.Prelude.{◌≡◌, false, ◌≤◌, length};
+ghost use Rattle.std.specs.Prelude.{◌≡◌, false, ◌≤◌, length, IfSome};
 ghost use Rattle.args.specs.Decimal.{decimal_of};
-ghost use Rattle.libc.specs.Io.{Moved};
 ghost use Rattle.desk.specs.Header.{or_zero, numbers_of, size_of, length_in, number_in, numbers_in};
 ghost use Rattle.desk.specs.Marks.{marks};
 
+use crate::messages::fail;
+use crate::output::print_bytes;
+use crate::reading::opened;
 use crate::{FIRST_MARK, Numbers};
 use args::Argument;
-use libc::STDOUT_FILENO;
+use std::fs::File;
+use std::io::Read;
 use text::Digits;
 
-// Opens a file of run cases. Where it cannot be opened, one line on standard error says so, and no case can be read from what is answered.
-pub fn open_cases(path: &[u8]) -> i32 {
-    let fd = os::open_read(path);
-    if fd < 0 {
-        os::fail(path);
+// Opens a file of run cases. Where it cannot be opened, one line on standard error says so, and there is none.
+pub fn open_cases(rt: &HostRuntime, path: &[u8]) -> Option<File> {
+    match opened(rt, path) {
+        Ok(file) => Some(file),
+        Err(why) => {
+            fail(rt, path, why);
+            None
+        }
     }
-    fd
 }
 
 // How long the name at the start of a header is: up to its first space.
@@ -34,10 +39,10 @@ fn name_length(head: &[u8]) -> usize
 }
 
 // Prints the name of a run case, which stands at the start of its header.
-fn print_name(head: &[u8]) {
+fn print_name(rt: &HostRuntime, head: &[u8]) {
     let n = name_length(head);
-    io::write_all(STDOUT_FILENO, &head[0..n]);
-    io::write_all(STDOUT_FILENO, b"\n");
+    print_bytes(rt, &head[0..n]);
+    print_bytes(rt, b"\n");
 }
 
 // A number of a run case; zero where its digits are none.
@@ -118,41 +123,61 @@ fn length_in(head: &[u8]) -> usize
     size_of(&head[from..from + 6])
 }
 
+// Reads until the room is full, the input ends or a read fails, and answers how many bytes it put there.
+pub fn read_full<R: Read>(reader: &mut R, room: &mut [u8]) -> usize
+    ensures { result ≤ length room.old }
+{
+    let mut done: usize = 0;
+    while done < room.len() {
+        let more = reader.read(&mut room[done..]).unwrap_or(0);
+        if more == 0 {
+            return done;
+        }
+        done += more;
+    }
+    done
+}
+
 // Reads the n bytes and the line end that come next in a file of run cases; false where they are not there. A room that is too short is
 // left as it came.
-pub fn read_next(fd: i32, room: &mut [u8], n: usize) -> bool
+pub fn read_next<R: Read>(cases: &mut R, room: &mut [u8], n: usize) -> bool
     ensures { (length room.old ≤ n) → (result ≡ false) × (room.new ≡ room.old) }
 {
     if room.len() <= n {
         return false;
     }
-    io::read_full(fd, &mut room[0..n + 1]) == n + 1
+    read_full(cases, &mut room[0..n + 1]) == n + 1
 }
 
-// The next run case of a file: its header is put in `head`, its name is printed, and its flow is put in `room`. Answers how many bytes the flow has; -1 where
+// The next run case of a file: its header is put in `head`, its name is printed, and its flow is put in `room`. Answers how many bytes the flow has; none where
 // there is no further case.
-pub fn next_case(fd: i32, head: &mut [u8], room: &mut [u8]) -> isize
-    ensures { Moved (length room.old) result }
+pub fn next_case<R: Read>(
+    rt: &HostRuntime,
+    cases: &mut R,
+    head: &mut [u8],
+    room: &mut [u8],
+) -> Option<usize>
+    ensures { IfSome result (λ n. n ≤ length room.old) }
 {
-    if io::read_full(fd, &mut *head) < head.len() {
-        return -1;
+    if read_full(cases, &mut *head) < head.len() {
+        return None;
     }
-    print_name(head);
+    print_name(rt, head);
     let n = length_in(head);
     if room.len() <= n {
-        return -1;
+        return None;
     }
-    if !read_next(fd, &mut *room, n) {
-        return -1;
+    if !read_next(cases, &mut *room, n) {
+        return None;
     }
-    n as isize
+    Some(n)
 }
 
 // Prints whether the bytes that a run case has left are the expected ones.
-pub fn print_comparison(left: &[u8], expected: &[u8]) {
+pub fn print_comparison(rt: &HostRuntime, left: &[u8], expected: &[u8]) {
     if text::same_bytes(left, expected) {
-        io::write_all(STDOUT_FILENO, b"SAME\n");
+        print_bytes(rt, b"SAME\n");
     } else {
-        io::write_all(STDOUT_FILENO, b"DIFFERENT\n");
+        print_bytes(rt, b"DIFFERENT\n");
     }
 }

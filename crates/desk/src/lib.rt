@@ -1,12 +1,13 @@
 // What the desk's programs have in common: arguments, a flow read whole or saved, answers printed, one line for what went wrong; and, of the programs that the
 // gate runs, how a stored case is read.
-// What comes from or goes to a descriptor, and what the arguments are, is outside what a contract can say: a function that only prints or
+// What comes from or goes to a file or a stream, and what the arguments are, is outside what a contract can say: a function that only prints or
 // asks promises that it is safe and ends. What can be said of an answer or of lent room is said.
 #![tactic(auto)]
 
 mod answers;
 mod cases;
 mod messages;
+mod output;
 mod reading;
 mod replacing;
 mod saving;
@@ -16,12 +17,19 @@ pub use answers::{
     print_record, print_refusal,
 };
 pub use cases::{
-    mark, next_case, numbers_of, open_cases, print_comparison, put_numbers, read_next,
+    mark, next_case, numbers_of, open_cases, print_comparison, put_numbers, read_full, read_next,
 };
 pub use messages::{begin_line, misused, no_number, no_portion};
-pub use reading::{name_at, number_at, open_named, read_flow, read_open, read_word};
+pub use output::{print_bytes, print_decimal};
+pub use reading::{
+    LONGEST_NAME, Source, count_words, name_at, number_at, open_named, path_at, read_flow,
+    read_open, read_word, text_of, word_at,
+};
 pub use replacing::{open_old, replace};
-pub use saving::{is_link, put_name, stored, tell_of, unsaved};
+pub use saving::{
+    create, create_beside, is_link, put_name, remove, rename, stored, tell_of, unsaved,
+};
+use std::fs::File;
 
 // Whose a file is, and who may use it.
 #[derive(Clone, Copy)]
@@ -31,10 +39,10 @@ pub struct Access {
     pub mode: u32,
 }
 
-// A file that is to be replaced by another: its descriptor, negative where it cannot be, and its access.
-#[derive(Clone, Copy)]
+// A file that is to be replaced by another: it is open, and its access.
+#[derive(Drop)]
 pub struct Old {
-    pub fd: i32,
+    pub file: File,
     pub access: Access,
 }
 

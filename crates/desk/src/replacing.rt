@@ -1,167 +1,199 @@
 // A flow saved in the file that it was read from: it is written to a new file beside it, which then takes its name, so that the file holds either the old flow or the new
-// one, whole. Two programs at once are kept apart by the launcher, which locks the folder: the kit's C library has no lock.
-use crate::saving::{is_link, put_name, stored, tell_of, unsaved};
+// one, whole. Two programs at once are kept apart by the launcher, which locks the folder before the program is there.
+use crate::messages::tell;
+use crate::reading::{LONGEST_NAME, text_of};
+use crate::saving::{create_beside, is_link, put_name, remove, rename, stored, tell_of, unsaved};
 use crate::{Access, Old};
-use libc::STDERR_FILENO;
-use libc::types::{stat, timespec};
+use std::fs::{File, Metadata, OpenOptions, Permissions};
+use std::io;
+use std::os::fd::AsRawFd;
+use std::os::unix::fs::{MetadataExt, PermissionsExt, fchown};
 
-// What is known of no file.
-fn unknown() -> stat {
-    let time = timespec {
-        tv_sec: 0,
-        tv_nsec: 0,
-    };
-    stat {
-        st_dev: 0,
-        st_ino: 0,
-        st_nlink: 0,
-        st_mode: 0,
-        st_uid: 0,
-        st_gid: 0,
-        __pad: 0,
-        st_rdev: 0,
-        st_size: 0,
-        st_blksize: 0,
-        st_blocks: 0,
-        st_atim: time,
-        st_mtim: time,
-        st_ctim: time,
-        __unused: [0; 3],
-    }
-}
-
-// What the system knows of an open file; zeros where it does not tell.
-fn status_of(fd: i32) -> stat {
-    let mut known = unknown();
-    libc::fstat(fd, &mut known);
-    known
+// A file that is open for reading and writing.
+fn opened(rt: &HostRuntime, path: &[u8]) -> io::Result<File> {
+    OpenOptions::new()
+        .read(true)
+        .write(true)
+        .open(rt, text_of(path)?)
 }
 
 // Opens a file for writing too, so that a file that may not be written is not replaced. A descriptor below 3 is that of an input or an output that was closed: what is
-// printed would go into the file. Negative, with one line on standard error, where it cannot be changed.
-fn open_update(command: &[u8], path: &[u8]) -> i32 {
-    let fd = os::open_update(path);
-    if fd < 0 {
-        unsaved(command, path, b" cannot be changed");
-        return -1;
+// printed would go into the file. None, with one line on standard error, where it cannot be changed.
+fn open_update(rt: &HostRuntime, command: &[u8], path: &[u8]) -> Option<File> {
+    match opened(rt, path) {
+        Ok(file) => apart(rt, command, path, file),
+        Err(why) => {
+            unsaved(rt, command, path, b" cannot be changed", why);
+            None
+        }
     }
-    if fd < 3 {
-        libc::close(fd);
+}
+
+// An open file that stands where no input or output does; closed, with one line on standard error, where it stands there.
+fn apart(rt: &HostRuntime, command: &[u8], path: &[u8], file: File) -> Option<File> {
+    if file.as_raw_fd() < 3 {
+        drop(file);
         tell_of(
+            rt,
             command,
             path,
             b" is as it was: standard input, output and error must be open\n",
         );
-        return -1;
+        return None;
     }
-    fd
+    Some(file)
+}
+
+// What the system knows of a regular file; nothing where it is none, or the system does not tell.
+fn status_of(file: &File) -> Option<Metadata> {
+    match file.metadata() {
+        Ok(known) if known.is_file() => Some(known),
+        _ => None,
+    }
 }
 
 // An open file with what the system knows of it.
-fn old_file(fd: i32, status: stat) -> Old {
+fn old_file(file: File, status: Metadata) -> Old {
     Old {
-        fd,
+        file,
         access: Access {
-            owner: status.st_uid,
-            group: status.st_gid,
-            mode: status.st_mode & 0o777,
+            owner: status.uid(),
+            group: status.gid(),
+            mode: status.mode() & 0o777,
         },
     }
 }
 
-// Closes a file that cannot be replaced, and says why in one line on standard error.
-fn turned_down(command: &[u8], path: &[u8], fd: i32, why: &[u8]) -> Old {
-    tell_of(command, path, why);
-    libc::close(fd);
-    old_file(-1, unknown())
+// Says in one line on standard error why a file cannot be replaced.
+fn turned_down(rt: &HostRuntime, command: &[u8], path: &[u8], why: &[u8]) -> Option<Old> {
+    tell_of(rt, command, path, why);
+    None
 }
 
-// Opens a file that is to be replaced by another; `room` holds its path too. Only a regular file can be, and at a link, the new file would take the place of the link and
-// not of the file behind it. Where it cannot be replaced, one line on standard error says so, and the descriptor is negative.
-pub fn open_old(command: &[u8], room: [u8; 4096], path: &[u8]) -> Old {
-    let fd = open_update(command, path);
-    if fd < 0 {
-        return old_file(-1, unknown());
+// Opens a file that is to be replaced by another. Only a regular file can be, and at a link, the new file would take the place of the link and
+// not of the file behind it. Where it cannot be replaced, one line on standard error says so, and there is none.
+pub fn open_old(rt: &HostRuntime, command: &[u8], path: &[u8]) -> Option<Old> {
+    let file = open_update(rt, command, path)?;
+    if is_link(rt, path) {
+        return turned_down(rt, command, path, b" is a link: name the file itself\n");
     }
-    if is_link(room) {
-        return turned_down(command, path, fd, b" is a link: name the file itself\n");
+    match status_of(&file) {
+        Some(status) => Some(old_file(file, status)),
+        None => turned_down(rt, command, path, b" is not a regular file\n"),
     }
-    let status = status_of(fd);
-    if status.st_mode & libc::S_IFMT != libc::S_IFREG {
-        return turned_down(command, path, fd, b" is not a regular file\n");
-    }
-    old_file(fd, status)
 }
 
 // Gives a new file to those who had the old one, and answers whether it could. The system may keep the owner from being changed; then the group at least is.
-fn given_back(fd: i32, owner: u32, group: u32) -> bool {
-    if libc::fchown(fd, owner, group) == 0 {
+fn given_back(file: &File, owner: u32, group: u32) -> bool {
+    if fchown(file, Some(owner), Some(group)).is_ok() {
         return true;
     }
-    libc::fchown(fd, u32::MAX, group);
+    let _ = fchown(file, None, Some(group));
     false
 }
 
 // Gives a new file the old one's mode and the flow, and waits until the device has it.
-fn filled(fd: i32, mode: u32, flow: &[u8]) -> bool {
-    if libc::fchmod(fd, mode) < 0 {
-        return false;
-    }
-    stored(fd, flow)
+fn filled(file: &mut File, mode: u32, flow: &[u8]) -> io::Result<()> {
+    file.set_permissions(Permissions::from_mode(mode))?;
+    stored(file, flow)
 }
 
-// Fills a new file and closes it. The line for a failure comes first, since closing might set another reason.
-fn written(command: &[u8], fd: i32, old: &[u8], mode: u32, flow: &[u8]) -> bool {
-    let whole = filled(fd, mode, flow);
-    if !whole {
-        unsaved(
-            command,
-            old,
-            b" is as it was, since the new file cannot be written",
-        );
+// Fills a new file and closes it.
+fn written(
+    rt: &HostRuntime,
+    command: &[u8],
+    mut file: File,
+    old: &[u8],
+    mode: u32,
+    flow: &[u8],
+) -> bool {
+    match filled(&mut file, mode, flow) {
+        Ok(()) => true,
+        Err(why) => {
+            unsaved(
+                rt,
+                command,
+                old,
+                b" is as it was, since the new file cannot be written",
+                why,
+            );
+            false
+        }
     }
-    libc::close(fd);
-    whole
 }
 
 // Has a new file take the old one's name.
-fn renamed(command: &[u8], new: &[u8], old: &[u8]) -> bool {
-    if os::rename(new, old) < 0 {
-        unsaved(
-            command,
-            old,
-            b" is as it was, since the new file cannot take its place",
-        );
-        return false;
+fn renamed(rt: &HostRuntime, command: &[u8], new: &[u8], old: &[u8]) -> bool {
+    match rename(rt, new, old) {
+        Ok(()) => true,
+        Err(why) => {
+            unsaved(
+                rt,
+                command,
+                old,
+                b" is as it was, since the new file cannot take its place",
+                why,
+            );
+            false
+        }
     }
-    true
 }
 
 // Gives a new file the flow and then the old file's name. Where either fails, the new file is removed.
-fn replaced(command: &[u8], fd: i32, new: &[u8], old: &[u8], mode: u32, flow: &[u8]) -> bool {
-    if !written(command, fd, old, mode, flow) {
-        os::unlink(new);
+fn replaced(
+    rt: &HostRuntime,
+    command: &[u8],
+    file: File,
+    new: &[u8],
+    old: &[u8],
+    mode: u32,
+    flow: &[u8],
+) -> bool {
+    if !written(rt, command, file, old, mode, flow) {
+        remove(rt, new);
         return false;
     }
-    if !renamed(command, new, old) {
-        os::unlink(new);
+    if !renamed(rt, command, new, old) {
+        remove(rt, new);
         return false;
     }
     true
 }
 
 // One line on standard error where a file was replaced, and its owner or group could not be kept.
-fn tell_yours(command: &[u8], done: &[u8], path: &[u8]) {
-    tell_of(command, path, b" is ");
-    io::write_all(STDERR_FILENO, done);
-    io::write_all(
-        STDERR_FILENO,
+fn tell_yours(rt: &HostRuntime, command: &[u8], done: &[u8], path: &[u8]) {
+    tell_of(rt, command, path, b" is ");
+    tell(rt, done);
+    tell(
+        rt,
         b", and is now yours: its owner or group could not be kept\n",
     );
 }
 
-// Makes the new file, and has it take the old one's place.
+// Has a new file take the old one's place.
+fn put_in_place(
+    rt: &HostRuntime,
+    command: &[u8],
+    done: &[u8],
+    file: File,
+    new: &[u8],
+    old: &[u8],
+    access: Access,
+    flow: &[u8],
+) -> bool {
+    let kept = given_back(&file, access.owner, access.group);
+    if !replaced(rt, command, file, new, old, access.mode, flow) {
+        return false;
+    }
+    if !kept {
+        tell_yours(rt, command, done, old);
+    }
+    true
+}
+
+// Makes the new file, and has it take the old one's place. Until then it is for nobody but its maker to read.
 fn saved_as(
+    rt: &HostRuntime,
     command: &[u8],
     done: &[u8],
     new: &mut [u8],
@@ -169,28 +201,31 @@ fn saved_as(
     access: Access,
     flow: &[u8],
 ) -> bool {
-    let fd = os::create_temp(&mut *new);
-    if fd < 0 {
-        unsaved(
-            command,
-            old,
-            b" is as it was, since no new file can be made beside it",
-        );
-        return false;
+    match create_beside(rt, &mut *new, 0o600) {
+        Ok(file) => put_in_place(rt, command, done, file, new, old, access, flow),
+        Err(why) => {
+            unsaved(
+                rt,
+                command,
+                old,
+                b" is as it was, since no new file can be made beside it",
+                why,
+            );
+            false
+        }
     }
-    let kept = given_back(fd, access.owner, access.group);
-    if !replaced(command, fd, new, old, access.mode, flow) {
-        return false;
-    }
-    if !kept {
-        tell_yours(command, done, old);
-    }
-    true
 }
 
 // Saves a flow under the name of the old one. `done` is the word for what was done to it.
-pub fn replace(command: &[u8], done: &[u8], path: &[u8], access: Access, flow: &[u8]) -> bool {
-    let mut room = io::buffer();
+pub fn replace(
+    rt: &HostRuntime,
+    command: &[u8],
+    done: &[u8],
+    path: &[u8],
+    access: Access,
+    flow: &[u8],
+) -> bool {
+    let mut room = [0u8; LONGEST_NAME];
     let n = put_name(&mut room, path);
-    saved_as(command, done, &mut room[..n], path, access, flow)
+    saved_as(rt, command, done, &mut room[..n], path, access, flow)
 }

@@ -1,35 +1,44 @@
 // A flow saved in a file: what the programs that save one have in common.
-ghost use Rattle.io.specs.Counts.{IsPrefixLen};
+ghost use Rattle.std.specs.Prelude.{◌≡◌, ◌≤◌, length, take};
 
-use crate::messages::begin_line;
-use libc::STDERR_FILENO;
+use crate::messages::{begin_line, fail, tell};
+use crate::reading::{NO_ARGUMENT, text_of};
+use std::fs::{File, OpenOptions};
+use std::io::{ErrorKind, Write};
+use std::os::unix::fs::OpenOptionsExt;
+use std::random::RandomSource;
+use std::{fs, io};
 
 // One line on standard error about the named file.
-pub fn tell_of(command: &[u8], path: &[u8], what: &[u8]) {
-    begin_line(command);
-    io::write_all(STDERR_FILENO, path);
-    io::write_all(STDERR_FILENO, what);
+pub fn tell_of(rt: &HostRuntime, command: &[u8], path: &[u8], what: &[u8]) {
+    begin_line(rt, command);
+    tell(rt, path);
+    tell(rt, what);
 }
 
 // One line on standard error where a flow could not be saved under the name, with the system's reason.
-pub fn unsaved(command: &[u8], path: &[u8], what: &[u8]) {
-    begin_line(command);
-    io::write_all(STDERR_FILENO, path);
-    os::fail(what);
+pub fn unsaved(rt: &HostRuntime, command: &[u8], path: &[u8], what: &[u8], why: io::Error) {
+    begin_line(rt, command);
+    tell(rt, path);
+    fail(rt, what, why);
 }
 
 // Whether a path names a link.
-pub fn is_link(path: [u8; 4096]) -> bool {
-    let mut ended = path;
-    ended[4095] = 0;
-    let mut target = [0u8; 1];
-    libc::readlink(&ended, &mut target) >= 0
+pub fn is_link(rt: &HostRuntime, path: &[u8]) -> bool {
+    let Ok(path) = text_of(path) else {
+        return false;
+    };
+    match fs::symlink_metadata(rt, path) {
+        Ok(known) => known.is_symlink(),
+        Err(_) => false,
+    }
 }
 
-// The name of a new file: that of the file to be saved with a dot and six characters behind it, which `create_temp` chooses. It is empty where
+// The name of a new file: that of the file to be saved with a dot and six characters behind it, which `create_beside` chooses. It is empty where
 // the room is too short.
 pub fn put_name(room: &mut [u8], path: &[u8]) -> usize
-    ensures { IsPrefixLen result room.new }
+    ensures within { result ≤ length room.new }
+    ensures cut { result ≡ length (take result room.new) }
 {
     if room.len() < 7 {
         return 0;
@@ -42,10 +51,70 @@ pub fn put_name(room: &mut [u8], path: &[u8]) -> usize
     path.len() + 7
 }
 
-// Gives an open file the flow, and waits until the device has it.
-pub fn stored(fd: i32, flow: &[u8]) -> bool {
-    if !io::write_all(fd, flow) {
-        return false;
+// What a name of a new file may end in.
+const LETTERS: &[u8; 62] = b"0123456789ABCDEFGHIJKLMNOPQRSTUVWXYZabcdefghijklmnopqrstuvwxyz";
+
+// A character of a name by chance.
+fn letter(chance: u8) -> u8 {
+    LETTERS[(chance % 62) as usize]
+}
+
+// Puts six characters by chance at the end of a name.
+fn choose(rt: &HostRuntime, name: &mut [u8]) -> io::Result<()> {
+    let mut chances = [0u8; 6];
+    rt.fill_bytes(&mut chances)?;
+    let mut i: usize = 0;
+    while i < 6 {
+        if i < name.len() {
+            let at = name.len() - 1 - i;
+            name[at] = letter(chances[i]);
+        }
+        i += 1;
     }
-    libc::fsync(fd) == 0
+    Ok(())
+}
+
+// Makes the file of a name that nothing has, for writing, and with this mode as far as the system lets new files have it.
+pub fn create(rt: &HostRuntime, path: &[u8], mode: u32) -> io::Result<File> {
+    OpenOptions::new()
+        .write(true)
+        .create_new(true)
+        .mode(mode)
+        .open(rt, text_of(path)?)
+}
+
+// How many names are tried for a new file. That each is taken does not happen.
+const MOST_NAMES: usize = 10_000;
+
+// Makes a file whose name ends in six characters that are chosen by chance, until nothing has that name. A name that is shorter is none.
+pub fn create_beside(rt: &HostRuntime, name: &mut [u8], mode: u32) -> io::Result<File> {
+    if name.len() < 6 {
+        return Err(io::Error::from_raw_os_error(NO_ARGUMENT));
+    }
+    for _ in 0..MOST_NAMES {
+        choose(rt, &mut *name)?;
+        match create(rt, name, mode) {
+            Err(why) if why.kind() == ErrorKind::AlreadyExists => {}
+            made => return made,
+        }
+    }
+    Err(io::Error::from(ErrorKind::AlreadyExists))
+}
+
+// Takes a file away.
+pub fn remove(rt: &HostRuntime, path: &[u8]) {
+    if let Ok(path) = text_of(path) {
+        let _ = fs::remove_file(rt, path);
+    }
+}
+
+// Gives a file another's name, in whose place it is then.
+pub fn rename(rt: &HostRuntime, from: &[u8], to: &[u8]) -> io::Result<()> {
+    fs::rename(rt, text_of(from)?, text_of(to)?)
+}
+
+// Gives an open file the flow, and waits until the device has it.
+pub fn stored(file: &mut File, flow: &[u8]) -> io::Result<()> {
+    file.write_all(flow)?;
+    file.sync_all()
 }

@@ -3,41 +3,41 @@
 #![tactic(auto)]
 
 use ep::EpAnswer;
+use std::fs::File;
 
 // An answer, as it is printed.
-fn print_answer(answer: EpAnswer) {
+fn print_answer(rt: &HostRuntime, answer: EpAnswer) {
     match answer {
-        EpAnswer::Accepted(count, sum) => desk::print_payments(count, sum),
-        EpAnswer::Refused(number, at, position) => desk::print_refusal(number, at, position),
+        EpAnswer::Accepted(count, sum) => desk::print_payments(rt, count, sum),
+        EpAnswer::Refused(number, at, position) => desk::print_refusal(rt, number, at, position),
     }
 }
 
 // One case; false where there is none left. The room takes 100,000 bytes, which no case exceeds, and the line end.
-fn one_case(fd: i32) -> bool {
+fn one_case(rt: &HostRuntime, cases: &mut File) -> bool {
     let mut head = [0u8; 48];
     let mut room = [0u8; 100001];
-    let got = desk::next_case(fd, &mut head, &mut room);
-    if got < 0 {
+    let Some(n) = desk::next_case(rt, cases, &mut head, &mut room) else {
         return false;
-    }
-    let n = io::count(got, &room);
-    print_answer(ep::ep_judge(&room[..n]));
+    };
+    print_answer(rt, ep::ep_judge(&room[..n]));
     true
 }
 
 // The cases of one file.
-fn judge_all(path: &[u8]) {
-    let fd = desk::open_cases(path);
+fn judge_all(rt: &HostRuntime, path: &[u8]) {
+    let Some(mut cases) = desk::open_cases(rt, path) else {
+        return;
+    };
     for _ in 0..desk::MOST_CASES {
-        if !one_case(fd) {
+        if !one_case(rt, &mut cases) {
             break;
         }
     }
-    libc::close(fd);
 }
 
 // The cases whose answers were written by hand, then the records that the reference has answered.
-fn main() {
-    judge_all(b"records");
-    judge_all(b"vectors");
+fn main(rt: HostRuntime) {
+    judge_all(&rt, b"records");
+    judge_all(&rt, b"vectors");
 }

@@ -11,60 +11,53 @@ use layout::Flow;
 const MOST_NUMBERS: usize = Flow::MOST_RECORDS + 1;
 
 // Saves the flow that is left, and prints its judgement.
-fn deliver(path: &[u8], access: Access, flow: &[u8]) {
-    if desk::replace(b"drop", b"shortened", path, access, flow) {
-        desk::print_judgement(judge::judge(flow));
+fn deliver(rt: &HostRuntime, path: &[u8], access: Access, flow: &[u8]) {
+    if desk::replace(rt, b"drop", b"shortened", path, access, flow) {
+        desk::print_judgement(rt, judge::judge(flow));
     }
 }
 
 // Drops the deleghe from a flow that was read from a file.
-fn drop_from(path: &[u8], access: Access, flow: &mut [u8], numbers: &[u64]) {
+fn drop_from(rt: &HostRuntime, path: &[u8], access: Access, flow: &mut [u8], numbers: &[u64]) {
     match dropping::drop_deleghe(&mut *flow, numbers) {
-        Dropping::Dropped(n) => deliver(path, access, &flow[..n]),
-        Dropping::Refused(number, at, position) => desk::print_refusal(number, at, position),
+        Dropping::Dropped(n) => deliver(rt, path, access, &flow[..n]),
+        Dropping::Refused(number, at, position) => desk::print_refusal(rt, number, at, position),
     }
 }
 
 // Drops the deleghe from an open file: what it gives up to one byte more than the longest flow, so that a longer file is refused.
-fn drop_open(old: Old, path: &[u8], numbers: &[u64]) {
+fn drop_open(rt: &HostRuntime, mut old: Old, path: &[u8], numbers: &[u64]) {
     let mut room = [0u8; Flow::MOST_BYTES + 1];
-    let got = desk::read_open(b"drop", path, old.fd, &mut room);
-    if got < 0 {
+    let Some(n) = desk::read_open(rt, b"drop", path, &mut old.file, &mut room) else {
         return;
-    }
-    let n = io::count(got, &room);
+    };
     let access = old.access;
-    drop_from(path, access, &mut room[..n], numbers);
+    drop_from(rt, path, access, &mut room[..n], numbers);
 }
 
-// Drops the deleghe from the flow in a file. `room` holds its path too.
-fn drop_at(room: [u8; 4096], path: &[u8], numbers: &[u64]) {
-    let old = desk::open_old(b"drop", room, path);
-    if old.fd < 0 {
-        return;
+// Drops the deleghe from the flow in a file.
+fn drop_at(rt: &HostRuntime, path: &[u8], numbers: &[u64]) {
+    if let Some(old) = desk::open_old(rt, b"drop", path) {
+        drop_open(rt, old, path, numbers);
     }
-    drop_open(old, path, numbers);
-    libc::close(old.fd);
 }
 
 // Drops the deleghe from the flow in the file that the first argument names.
-fn drop_file(numbers: &[u64]) {
-    let mut path = io::buffer();
-    let n = os::arg(1, &mut path);
-    if os::errno() != 0 {
-        desk::unsaved(b"drop", b"FILE", b" cannot be changed");
-        return;
+fn drop_file(rt: &HostRuntime, numbers: &[u64]) {
+    let mut path = [0u8; desk::LONGEST_NAME];
+    match desk::path_at(rt, 1, &mut path) {
+        Ok(n) => drop_at(rt, &path[..n], numbers),
+        Err(why) => desk::unsaved(rt, b"drop", b"FILE", b" cannot be changed", why),
     }
-    drop_at(path, &path[..n], numbers);
 }
 
 // Drops the deleghe that the first numbers of a list name: as many as were given, so far as it holds them.
-fn drop_listed(list: &[u64], given: usize) {
+fn drop_listed(rt: &HostRuntime, list: &[u64], given: usize) {
     if list.len() < given {
-        drop_file(list);
+        drop_file(rt, list);
         return;
     }
-    drop_file(&list[0..given]);
+    drop_file(rt, &list[0..given]);
 }
 
 // Puts a number at its place in a list, if the list is so long.
@@ -76,10 +69,10 @@ fn put(list: &mut [u64], i: usize, number: u64) {
 
 // Reads the arguments from the second on, and puts as many of their numbers into a list as it holds. Answers which argument is the first that is no number; how many
 // there are where each is one.
-fn read_numbers(list: &mut [u64], count: usize) -> usize {
+fn read_numbers(rt: &HostRuntime, list: &mut [u64], count: usize) -> usize {
     let mut i: usize = 2;
     while i < count {
-        let Argument::Number(number) = desk::number_at(i) else {
+        let Argument::Number(number) = desk::number_at(rt, i) else {
             return i;
         };
         put(&mut *list, i - 2, number);
@@ -89,10 +82,11 @@ fn read_numbers(list: &mut [u64], count: usize) -> usize {
 }
 
 // Every NUMBER is read before the file is opened.
-fn main() {
-    let count = os::arg_count();
+fn main(rt: HostRuntime) {
+    let count = desk::count_words(&rt);
     if count < 3 {
         desk::misused(
+            &rt,
             b"drop",
             b"a file and at least one number are needed",
             b"FILE NUMBER ..",
@@ -100,10 +94,10 @@ fn main() {
         return;
     }
     let mut numbers = [0u64; MOST_NUMBERS];
-    let read = read_numbers(&mut numbers, count);
+    let read = read_numbers(&rt, &mut numbers, count);
     if read < count {
-        desk::no_number(b"drop", b"NUMBER", read);
+        desk::no_number(&rt, b"drop", b"NUMBER", read);
         return;
     }
-    drop_listed(&numbers, count - 2);
+    drop_listed(&rt, &numbers, count - 2);
 }

@@ -6,6 +6,7 @@
 ghost use Rattle.std.specs.Prelude.{false, ◌≡◌};
 ghost use Rattle.f24_ep.specs.Reading.{FromPieces, FromBytes};
 
+use desk::Source;
 use ep::{Course, EpAnswer};
 use ep_accounts::RECORD;
 
@@ -36,21 +37,19 @@ fn left_unread(course: Course) -> Pieces
 
 // Takes an open file, which goes by the word, piece by piece, each a record but for the last; up to its end, or until there are too many.
 // Nothing is read after an end, so that a clerk who types ends once.
-fn judge_open(word: &[u8], fd: i32) -> Pieces
+fn judge_open(rt: &HostRuntime, word: &[u8], source: &mut Source) -> Pieces
     ensures { FromPieces result.course }
 {
     let mut course = ep::start();
     let mut room = [0u8; RECORD];
     let mut taken: usize = 0;
     while taken < MOST_PIECES {
-        let got = desk::read_open(b"ep", word, fd, &mut room);
-        if got < 0 {
+        let Some(n) = desk::read_open(rt, b"ep", word, &mut *source, &mut room) else {
             return Pieces {
                 read: false,
                 course,
             };
-        }
-        let n = io::count(got, &room);
+        };
         if n == 0 {
             return Pieces { read: true, course };
         }
@@ -64,10 +63,10 @@ fn judge_open(word: &[u8], fd: i32) -> Pieces
 }
 
 // The answer for an open file.
-fn answer_open(word: &[u8], fd: i32) -> Told
+fn answer_open(rt: &HostRuntime, word: &[u8], source: &mut Source) -> Told
     ensures { FromBytes result.answer }
 {
-    let pieces = judge_open(word, fd);
+    let pieces = judge_open(rt, word, source);
     let course = pieces.course;
     let answer = ep::answered(course);
     Told {
@@ -77,37 +76,33 @@ fn answer_open(word: &[u8], fd: i32) -> Told
 }
 
 // An answer, as it is printed.
-fn print_answer(answer: EpAnswer) {
+fn print_answer(rt: &HostRuntime, answer: EpAnswer) {
     match answer {
-        EpAnswer::Accepted(count, sum) => desk::print_payments(count, sum),
-        EpAnswer::Refused(number, at, position) => desk::print_refusal(number, at, position),
+        EpAnswer::Accepted(count, sum) => desk::print_payments(rt, count, sum),
+        EpAnswer::Refused(number, at, position) => desk::print_refusal(rt, number, at, position),
     }
 }
 
 // Judges what a word names. Where it cannot be read, that has been said, and there is no answer.
-fn judge_named(word: &[u8]) {
-    let fd = desk::open_named(b"ep", word);
-    if fd < 0 {
+fn judge_named(rt: &HostRuntime, word: &[u8]) {
+    let Some(mut source) = desk::open_named(rt, b"ep", word) else {
         return;
-    }
-    let told = answer_open(word, fd);
-    libc::close(fd);
+    };
+    let told = answer_open(rt, word, &mut source);
     if told.read {
         let answer = told.answer;
-        print_answer(answer);
+        print_answer(rt, answer);
     }
 }
 
-fn main() {
-    if 2 < os::arg_count() {
-        desk::misused(b"ep", b"one file is judged at a time", b"FILE");
+fn main(rt: HostRuntime) {
+    if 2 < desk::count_words(&rt) {
+        desk::misused(&rt, b"ep", b"one file is judged at a time", b"FILE");
         return;
     }
-    let mut word = io::buffer();
-    let got = desk::name_at(b"ep", b"FILE", 1, &mut word);
-    if got < 0 {
+    let mut word = [0u8; desk::LONGEST_NAME];
+    let Some(n) = desk::name_at(&rt, b"ep", b"FILE", 1, &mut word) else {
         return;
-    }
-    let n = io::count(got, &word);
-    judge_named(&word[..n]);
+    };
+    judge_named(&rt, &word[..n]);
 }

@@ -48,20 +48,23 @@ fn call_on(flow: &[u8], portion: usize) -> Calls
 }
 
 // Prints the answer that has ended a judgement; false where it has not ended.
-fn print_ended(last: Portion) -> bool {
+fn print_ended(rt: &HostRuntime, last: Portion) -> bool {
     let answer = last.answer;
     match answer {
         Course::Going => false,
         Course::Accepted => {
             let summary = last.summary;
-            desk::print_judgement(Judgement {
-                verdict: Verdict::Accepted,
-                summary,
-            });
+            desk::print_judgement(
+                rt,
+                Judgement {
+                    verdict: Verdict::Accepted,
+                    summary,
+                },
+            );
             true
         }
         Course::Refused(number, at, position) => {
-            desk::print_refusal(number, at, position);
+            desk::print_refusal(rt, number, at, position);
             true
         }
         Course::Foreign => false,
@@ -69,12 +72,13 @@ fn print_ended(last: Portion) -> bool {
 }
 
 // Prints what calls have come to. From the start, and with portions above zero, they end.
-fn print_calls(calls: Calls) {
+fn print_calls(rt: &HostRuntime, calls: Calls) {
     let last = calls.last;
-    if print_ended(last) {
-        desk::print_examined(last.examined, calls.made);
+    if print_ended(rt, last) {
+        desk::print_examined(rt, last.examined, calls.made);
     } else {
         desk::tell_of(
+            rt,
             b"judge",
             b"FILE",
             b" is not judged: the calls have come to no answer\n",
@@ -83,62 +87,59 @@ fn print_calls(calls: Calls) {
 }
 
 // Judges at once the flow that the first argument names. The room holds one byte more than the longest flow, so that a longer one is refused.
-fn judge_whole() {
+fn judge_whole(rt: &HostRuntime) {
     let mut room = [0u8; Flow::MOST_BYTES + 1];
-    let got = desk::read_flow(b"judge", 1, &mut room);
-    if got < 0 {
+    let Some(n) = desk::read_flow(rt, b"judge", 1, &mut room) else {
         return;
-    }
-    let n = io::count(got, &room);
-    desk::print_judgement(judge::judge(&room[..n]));
+    };
+    desk::print_judgement(rt, judge::judge(&room[..n]));
 }
 
 // Judges by portions the flow that the third argument names.
-fn judge_by(portion: usize) {
+fn judge_by(rt: &HostRuntime, portion: usize) {
     let mut room = [0u8; Flow::MOST_BYTES + 1];
-    let got = desk::read_flow(b"judge", 3, &mut room);
-    if got < 0 {
+    let Some(n) = desk::read_flow(rt, b"judge", 3, &mut room) else {
         return;
-    }
-    let n = io::count(got, &room);
-    print_calls(call_on(&room[..n], portion));
+    };
+    print_calls(rt, call_on(&room[..n], portion));
 }
 
 // Reads the portion, and judges by it.
-fn judge_portions() {
-    let Argument::Number(portion) = desk::number_at(2) else {
-        desk::no_number(b"judge", b"N", 2);
+fn judge_portions(rt: &HostRuntime) {
+    let Argument::Number(portion) = desk::number_at(rt, 2) else {
+        desk::no_number(rt, b"judge", b"N", 2);
         return;
     };
     if portion == 0 {
-        desk::no_portion(b"judge", 2);
+        desk::no_portion(rt, b"judge", 2);
         return;
     }
-    judge_by(portion as usize);
+    judge_by(rt, portion as usize);
 }
 
 // Whether the arguments ask for a judgement by portions: they are three, and the first is that word.
-fn asks_portions() -> bool {
-    if os::arg_count() != 4 {
+fn asks_portions(rt: &HostRuntime) -> bool {
+    if desk::count_words(rt) != 4 {
         return false;
     }
     let mut word = [0u8; 9];
-    let n = os::arg(1, &mut word);
-    check::same(&word[..n], b"--portion")
+    let n = desk::word_at(rt, 1, &mut word);
+    text::same_bytes(&word[..n], b"--portion")
 }
 
-fn main() {
-    if asks_portions() {
-        judge_portions();
+fn main(rt: HostRuntime) {
+    if asks_portions(&rt) {
+        judge_portions(&rt);
         return;
     }
-    if 2 < os::arg_count() {
+    if 2 < desk::count_words(&rt) {
         desk::misused(
+            &rt,
             b"judge",
             b"one flow is judged at a time",
             b"FILE, or ./f24 judge --portion N FILE",
         );
         return;
     }
-    judge_whole();
+    judge_whole(&rt);
 }

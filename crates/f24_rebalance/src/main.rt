@@ -10,95 +10,87 @@ use mend::Mending;
 const MOST_CHANGED: usize = 2 * 4 * Flow::MOST_RECORDS;
 
 // Prints the fields that changed, and the judgement of the rebalanced flow.
-fn print_rebalanced(flow: &[u8], list: &[u64], count: usize) {
-    desk::print_changes(list, count);
-    desk::print_judgement(judge::judge(flow));
+fn print_rebalanced(rt: &HostRuntime, flow: &[u8], list: &[u64], count: usize) {
+    desk::print_changes(rt, list, count);
+    desk::print_judgement(rt, judge::judge(flow));
 }
 
 // Saves a flow in which fields changed; where none did, the file is the flow already and is not written. False where it cannot be saved.
-fn kept(path: &[u8], access: Access, flow: &[u8], count: usize) -> bool {
+fn kept(rt: &HostRuntime, path: &[u8], access: Access, flow: &[u8], count: usize) -> bool {
     if count == 0 {
         return true;
     }
-    desk::replace(b"rebalance", b"rebalanced", path, access, flow)
+    desk::replace(rt, b"rebalance", b"rebalanced", path, access, flow)
 }
 
 // Rebalances a flow that was read from a file.
-fn rebalance_flow(path: &[u8], access: Access, flow: &mut [u8]) {
+fn rebalance_flow(rt: &HostRuntime, path: &[u8], access: Access, flow: &mut [u8]) {
     let mut list = [0u64; MOST_CHANGED];
     match mend::mend(&mut *flow, &mut list) {
         Mending::Mended(count) => {
-            if kept(path, access, flow, count) {
-                print_rebalanced(flow, &list, count);
+            if kept(rt, path, access, flow, count) {
+                print_rebalanced(rt, flow, &list, count);
             }
         }
-        Mending::Refused(number, at, position) => desk::print_refusal(number, at, position),
+        Mending::Refused(number, at, position) => desk::print_refusal(rt, number, at, position),
     }
 }
 
 // Rebalances an open file: what it gives up to one byte more than the longest flow, so that a longer file is refused.
-fn rebalance_open(old: Old, path: &[u8]) {
+fn rebalance_open(rt: &HostRuntime, mut old: Old, path: &[u8]) {
     let mut room = [0u8; Flow::MOST_BYTES + 1];
-    let got = desk::read_open(b"rebalance", path, old.fd, &mut room);
-    if got < 0 {
+    let Some(n) = desk::read_open(rt, b"rebalance", path, &mut old.file, &mut room) else {
         return;
-    }
-    let n = io::count(got, &room);
+    };
     let access = old.access;
-    rebalance_flow(path, access, &mut room[..n]);
+    rebalance_flow(rt, path, access, &mut room[..n]);
 }
 
-// Rebalances the flow in a file. `room` holds its path too.
-fn rebalance_at(room: [u8; 4096], path: &[u8]) {
-    let old = desk::open_old(b"rebalance", room, path);
-    if old.fd < 0 {
-        return;
+// Rebalances the flow in a file.
+fn rebalance_at(rt: &HostRuntime, path: &[u8]) {
+    if let Some(old) = desk::open_old(rt, b"rebalance", path) {
+        rebalance_open(rt, old, path);
     }
-    rebalance_open(old, path);
-    libc::close(old.fd);
 }
 
 // Rebalances the flow in the file that the first argument names.
-fn rebalance_file() {
-    let mut path = io::buffer();
-    let n = os::arg(1, &mut path);
-    if os::errno() != 0 {
-        desk::unsaved(b"rebalance", b"FILE", b" cannot be changed");
-        return;
+fn rebalance_file(rt: &HostRuntime) {
+    let mut path = [0u8; desk::LONGEST_NAME];
+    match desk::path_at(rt, 1, &mut path) {
+        Ok(n) => rebalance_at(rt, &path[..n]),
+        Err(why) => desk::unsaved(rt, b"rebalance", b"FILE", b" cannot be changed", why),
     }
-    rebalance_at(path, &path[..n]);
 }
 
 // Rebalances a flow in memory alone.
-fn try_flow(flow: &mut [u8]) {
+fn try_flow(rt: &HostRuntime, flow: &mut [u8]) {
     let mut list = [0u64; MOST_CHANGED];
     match mend::mend(&mut *flow, &mut list) {
-        Mending::Mended(count) => print_rebalanced(flow, &list, count),
-        Mending::Refused(number, at, position) => desk::print_refusal(number, at, position),
+        Mending::Mended(count) => print_rebalanced(rt, flow, &list, count),
+        Mending::Refused(number, at, position) => desk::print_refusal(rt, number, at, position),
     }
 }
 
 // Rebalances in memory alone the flow that the second argument names.
-fn try_file() {
+fn try_file(rt: &HostRuntime) {
     let mut room = [0u8; Flow::MOST_BYTES + 1];
-    let got = desk::read_flow(b"rebalance", 2, &mut room);
-    if got < 0 {
+    let Some(n) = desk::read_flow(rt, b"rebalance", 2, &mut room) else {
         return;
-    }
-    let n = io::count(got, &room);
-    try_flow(&mut room[..n]);
+    };
+    try_flow(rt, &mut room[..n]);
 }
 
 // Whether the first argument asks that nothing be saved.
-fn asks_dry() -> bool {
+fn asks_dry(rt: &HostRuntime) -> bool {
     let mut word = [0u8; 5];
-    let n = os::arg(1, &mut word);
-    check::same(&word[..n], b"--dry")
+    let n = desk::word_at(rt, 1, &mut word);
+    text::same_bytes(&word[..n], b"--dry")
 }
 
 // One line on standard error for other words than FILE, or --dry and FILE.
-fn misused() {
+fn misused(rt: &HostRuntime) {
     desk::misused(
+        rt,
         b"rebalance",
         b"one flow is rebalanced at a time",
         b"FILE, or ./f24 rebalance --dry FILE",
@@ -106,19 +98,19 @@ fn misused() {
 }
 
 // A first word --dry is never FILE itself, also where no other follows it: whoever asked that nothing be saved is told the usage.
-fn main() {
-    let count = os::arg_count();
-    if asks_dry() {
+fn main(rt: HostRuntime) {
+    let count = desk::count_words(&rt);
+    if asks_dry(&rt) {
         if count == 3 {
-            try_file();
+            try_file(&rt);
             return;
         }
-        misused();
+        misused(&rt);
         return;
     }
     if count == 2 {
-        rebalance_file();
+        rebalance_file(&rt);
         return;
     }
-    misused();
+    misused(&rt);
 }

@@ -18,8 +18,8 @@ use dropping::Dropping;
 use judge::Verdict;
 use kept::Keeping;
 use layout::Flow;
-use libc::STDOUT_FILENO;
 use mend::Mending;
+use std::fs::File;
 use sums::KeptSums;
 use text::Digits;
 
@@ -49,43 +49,43 @@ struct Left {
 }
 
 // A number, after a space.
-fn print_number(n: u64) {
-    io::write_all(STDOUT_FILENO, b" ");
-    io::print_decimal(STDOUT_FILENO, n);
+fn print_number(rt: &HostRuntime, n: u64) {
+    desk::print_bytes(rt, b" ");
+    desk::print_decimal(rt, n);
 }
 
 // The two sums of a section.
-fn print_pair(pair: Sums) {
-    print_number(pair.debit);
-    print_number(pair.credit);
+fn print_pair(rt: &HostRuntime, pair: Sums) {
+    print_number(rt, pair.debit);
+    print_number(rt, pair.credit);
 }
 
 // The ten sums of a record.
-fn print_sums(kept: KeptSums) {
-    io::write_all(STDOUT_FILENO, b"SUMS");
+fn print_sums(rt: &HostRuntime, kept: KeptSums) {
+    desk::print_bytes(rt, b"SUMS");
     let sums = kept.sums;
     let mut i: usize = 0;
     while i < 5 {
-        print_pair(sums[i]);
+        print_pair(rt, sums[i]);
         i += 1;
     }
-    io::write_all(STDOUT_FILENO, b"\n");
+    desk::print_bytes(rt, b"\n");
 }
 
 // The record that is made from a flow, or the refusal.
-fn print_keeping(made: Keeping) {
+fn print_keeping(rt: &HostRuntime, made: Keeping) {
     let verdict = made.verdict;
     match verdict {
-        Verdict::Accepted => print_sums(made.kept),
-        Verdict::Refused(number, at, position) => desk::print_refusal(number, at, position),
+        Verdict::Accepted => print_sums(rt, made.kept),
+        Verdict::Refused(number, at, position) => desk::print_refusal(rt, number, at, position),
     }
 }
 
 // An answer that has a number.
-fn print_answer(word: &[u8], n: usize) {
-    io::write_all(STDOUT_FILENO, word);
-    print_number(n as u64);
-    io::write_all(STDOUT_FILENO, b"\n");
+fn print_answer(rt: &HostRuntime, word: &[u8], n: usize) {
+    desk::print_bytes(rt, word);
+    print_number(rt, n as u64);
+    desk::print_bytes(rt, b"\n");
 }
 
 // A step that could not be read.
@@ -101,21 +101,21 @@ fn unread(kept: KeptSums) -> Left
 }
 
 // The answer of a correction; false where it is a refusal.
-fn print_correction(answer: Correction) -> bool {
+fn print_correction(rt: &HostRuntime, answer: Correction) -> bool {
     match answer {
         Correction::Made => {
-            io::write_all(STDOUT_FILENO, b"MADE\n");
+            desk::print_bytes(rt, b"MADE\n");
             true
         }
         Correction::Refused(number, at, position) => {
-            desk::print_refusal(number, at, position);
+            desk::print_refusal(rt, number, at, position);
             false
         }
     }
 }
 
 // Corrects one line of a flow, and prints the answer.
-fn correct_line(flow: &mut [u8], call: Numbers, kept: KeptSums) -> Left
+fn correct_line(rt: &HostRuntime, flow: &mut [u8], call: Numbers, kept: KeptSums) -> Left
     ensures { result.length ≤ length flow.old }
 {
     let n = flow.len();
@@ -132,29 +132,29 @@ fn correct_line(flow: &mut [u8], call: Numbers, kept: KeptSums) -> Left
     let handed = made.kept;
     Left {
         read: true,
-        done: print_correction(answer),
+        done: print_correction(rt, answer),
         length: n,
         kept: handed,
     }
 }
 
 // The answer of a rebalancing and the fields that it lists; false where it is a refusal.
-fn print_mending(answer: Mending, list: &[u64]) -> bool {
+fn print_mending(rt: &HostRuntime, answer: Mending, list: &[u64]) -> bool {
     match answer {
         Mending::Mended(count) => {
-            print_answer(b"REBALANCED", count);
-            desk::print_changes(list, count);
+            print_answer(rt, b"REBALANCED", count);
+            desk::print_changes(rt, list, count);
             true
         }
         Mending::Refused(number, at, position) => {
-            desk::print_refusal(number, at, position);
+            desk::print_refusal(rt, number, at, position);
             false
         }
     }
 }
 
 // Rebalances a flow, and prints the answer.
-fn rebalance_flow(flow: &mut [u8], list: &mut [u64], kept: KeptSums) -> Left
+fn rebalance_flow(rt: &HostRuntime, flow: &mut [u8], list: &mut [u64], kept: KeptSums) -> Left
     ensures { result.length ≤ length flow.old }
 {
     let n = flow.len();
@@ -163,14 +163,14 @@ fn rebalance_flow(flow: &mut [u8], list: &mut [u64], kept: KeptSums) -> Left
     let handed = made.kept;
     Left {
         read: true,
-        done: print_mending(answer, list),
+        done: print_mending(rt, answer, list),
         length: n,
         kept: handed,
     }
 }
 
 // Rebalances a flow with a list of so many numbers, if a list can be so long.
-fn rebalance_with(flow: &mut [u8], size: usize, kept: KeptSums) -> Left
+fn rebalance_with(rt: &HostRuntime, flow: &mut [u8], size: usize, kept: KeptSums) -> Left
     ensures { result.length ≤ length flow.old }
 {
     if MOST_LIST < size {
@@ -178,11 +178,11 @@ fn rebalance_with(flow: &mut [u8], size: usize, kept: KeptSums) -> Left
     }
     let mut list = [0u64; MOST_LIST];
     desk::mark(&mut list);
-    rebalance_flow(flow, &mut list[0..size], kept)
+    rebalance_flow(rt, flow, &mut list[0..size], kept)
 }
 
 // Drops deleghe from a flow, and prints the answer.
-fn drop_deleghe(flow: &mut [u8], numbers: &[u64], kept: KeptSums) -> Left
+fn drop_deleghe(rt: &HostRuntime, flow: &mut [u8], numbers: &[u64], kept: KeptSums) -> Left
     ensures { result.length ≤ length flow.old }
 {
     let n = flow.len();
@@ -191,7 +191,7 @@ fn drop_deleghe(flow: &mut [u8], numbers: &[u64], kept: KeptSums) -> Left
     let handed = made.kept;
     match answer {
         Dropping::Dropped(length) => {
-            print_answer(b"DROPPED", length);
+            print_answer(rt, b"DROPPED", length);
             Left {
                 read: true,
                 done: true,
@@ -200,7 +200,7 @@ fn drop_deleghe(flow: &mut [u8], numbers: &[u64], kept: KeptSums) -> Left
             }
         }
         Dropping::Refused(number, at, position) => {
-            desk::print_refusal(number, at, position);
+            desk::print_refusal(rt, number, at, position);
             Left {
                 read: true,
                 done: false,
@@ -212,7 +212,7 @@ fn drop_deleghe(flow: &mut [u8], numbers: &[u64], kept: KeptSums) -> Left
 }
 
 // Drops so many of the deleghe that a text lists, if a list can have so many.
-fn drop_listed(flow: &mut [u8], text: &[u8], count: usize, kept: KeptSums) -> Left
+fn drop_listed(rt: &HostRuntime, flow: &mut [u8], text: &[u8], count: usize, kept: KeptSums) -> Left
     ensures { result.length ≤ length flow.old }
 {
     if MOST_NUMBERS < count {
@@ -220,7 +220,7 @@ fn drop_listed(flow: &mut [u8], text: &[u8], count: usize, kept: KeptSums) -> Le
     }
     let mut numbers = [0u64; MOST_NUMBERS];
     desk::put_numbers(&mut numbers, text);
-    drop_deleghe(flow, &numbers[0..count], kept)
+    drop_deleghe(rt, flow, &numbers[0..count], kept)
 }
 
 // Whether the line of a step begins with this word, in ten bytes.
@@ -238,9 +238,9 @@ fn says_length(head: [u8; 153], n: usize) -> bool {
 }
 
 // Reads the line of a step on a flow of so many bytes; one without a word where it is not there or says another length.
-fn read_head(fd: i32, n: usize) -> [u8; 153] {
+fn read_head(cases: &mut File, n: usize) -> [u8; 153] {
     let mut head = [0u8; 153];
-    if desk::read_next(fd, &mut head, 152) {
+    if desk::read_next(cases, &mut head, 152) {
         if says_length(head, n) {
             return head;
         }
@@ -274,68 +274,74 @@ fn lent_record(text: &[u8], last: KeptSums) -> KeptSums {
 }
 
 // Makes the step that a line and the numbers below it say.
-fn make(head: [u8; 153], flow: &mut [u8], text: &[u8], last: KeptSums) -> Left
+fn make(rt: &HostRuntime, head: [u8; 153], flow: &mut [u8], text: &[u8], last: KeptSums) -> Left
     requires { 232 ≤ length text.now }
     ensures { result.length ≤ length flow.old }
 {
     let kept = lent_record(text, last);
     let call = desk::numbers_of(head);
     if begins(head, b"correct   ") {
-        return correct_line(flow, call, kept);
+        return correct_line(rt, flow, call, kept);
     }
     if begins(head, b"rebalance ") {
-        return rebalance_with(flow, call.first as usize, kept);
+        return rebalance_with(rt, flow, call.first as usize, kept);
     }
     if begins(head, b"drop      ") {
-        return drop_listed(flow, &text[232..], call.first as usize, kept);
+        return drop_listed(rt, flow, &text[232..], call.first as usize, kept);
     }
     unread(kept)
 }
 
 // What a step leaves: the record, whether the lent flow is as expected and, where the step is no refusal, the judgement of the flow as it is then.
-fn print_left(flow: &[u8], expected: &[u8], left: Left)
+fn print_left(rt: &HostRuntime, flow: &[u8], expected: &[u8], left: Left)
     requires { left.length ≤ length flow.now }
 {
     if left.read {
-        print_sums(left.kept);
-        desk::print_comparison(flow, expected);
+        print_sums(rt, left.kept);
+        desk::print_comparison(rt, flow, expected);
         if left.done {
-            desk::print_judgement(judge::judge(&flow[..left.length]));
+            desk::print_judgement(rt, judge::judge(&flow[..left.length]));
         }
     }
 }
 
 // Makes a step with what stands below its line, and prints what it leaves.
-fn step_on(flow: &mut [u8], head: [u8; 153], rest: &[u8], last: KeptSums) -> Left
+fn step_on(rt: &HostRuntime, flow: &mut [u8], head: [u8; 153], rest: &[u8], last: KeptSums) -> Left
     requires { length flow.old + 233 ≤ length rest.now }
     ensures { result.length ≤ length flow.old }
 {
     let n = flow.len();
-    let left = make(head, &mut *flow, &rest[n + 1..], last);
-    print_left(flow, &rest[..n], left);
+    let left = make(rt, head, &mut *flow, &rest[n + 1..], last);
+    print_left(rt, flow, &rest[..n], left);
     left
 }
 
 // One step on a flow, after one that handed back a record.
-fn one_step(fd: i32, flow: &mut [u8], last: KeptSums) -> Left
+fn one_step(rt: &HostRuntime, cases: &mut File, flow: &mut [u8], last: KeptSums) -> Left
     ensures { result.length ≤ length flow.old }
 {
     let n = flow.len();
-    let head = read_head(fd, n);
+    let head = read_head(cases, n);
     let size = n + 233 + numbers_size(head);
     let mut rest = [0u8; MOST_REST];
-    if !desk::read_next(fd, &mut rest, size) {
+    if !desk::read_next(cases, &mut rest, size) {
         return unread(last);
     }
-    step_on(flow, head, &rest, last)
+    step_on(rt, flow, head, &rest, last)
 }
 
 // The steps of a case, each on the flow and with the record that the one before it left; false where one of them is not there.
-fn run_steps(fd: i32, flow: &mut [u8], count: usize, made: KeptSums) -> bool {
+fn run_steps(
+    rt: &HostRuntime,
+    cases: &mut File,
+    flow: &mut [u8],
+    count: usize,
+    made: KeptSums,
+) -> bool {
     let mut length = flow.len();
     let mut kept = made;
     for _ in 0..count {
-        let left = one_step(fd, &mut flow[..length], kept);
+        let left = one_step(rt, &mut *cases, &mut flow[..length], kept);
         if !left.read {
             return false;
         }
@@ -346,41 +352,40 @@ fn run_steps(fd: i32, flow: &mut [u8], count: usize, made: KeptSums) -> bool {
 }
 
 // Makes the record of a flow, and so many steps, if a case can have so many.
-fn run_case(fd: i32, flow: &mut [u8], count: usize) -> bool {
+fn run_case(rt: &HostRuntime, cases: &mut File, flow: &mut [u8], count: usize) -> bool {
     if MOST_STEPS < count {
         return false;
     }
     let made = kept::keep(flow);
-    print_keeping(made);
-    run_steps(fd, flow, count, made.kept)
+    print_keeping(rt, made);
+    run_steps(rt, cases, flow, count, made.kept)
 }
 
 // One case; false where there is none left.
-fn one_case(fd: i32) -> bool {
+fn one_case(rt: &HostRuntime, cases: &mut File) -> bool {
     let mut head = [0u8; 153];
     let mut flow = [0u8; MOST_FLOW + 1];
-    let got = desk::next_case(fd, &mut head, &mut flow);
-    if got < 0 {
+    let Some(n) = desk::next_case(rt, cases, &mut head, &mut flow) else {
         return false;
-    }
-    let n = io::count(got, &flow);
+    };
     let call = desk::numbers_of(head);
-    run_case(fd, &mut flow[0..n], call.first as usize)
+    run_case(rt, cases, &mut flow[0..n], call.first as usize)
 }
 
 // The cases of one file.
-fn run_file(path: &[u8]) {
-    let fd = desk::open_cases(path);
+fn run_file(rt: &HostRuntime, path: &[u8]) {
+    let Some(mut cases) = desk::open_cases(rt, path) else {
+        return;
+    };
     for _ in 0..desk::MOST_CASES {
-        if !one_case(fd) {
+        if !one_case(rt, &mut cases) {
             break;
         }
     }
-    libc::close(fd);
 }
 
 // The cases whose answers were written by hand, then those that the reference has answered.
-fn main() {
-    run_file(b"calls");
-    run_file(b"vectors");
+fn main(rt: HostRuntime) {
+    run_file(&rt, b"calls");
+    run_file(&rt, b"vectors");
 }

@@ -5,8 +5,8 @@
 #![tactic(auto)]
 
 use layout::Flow;
-use libc::STDOUT_FILENO;
 use mend::Mending;
+use std::fs::File;
 
 // The longest list of a case.
 const MOST_LIST: usize = 5_000;
@@ -32,80 +32,79 @@ fn is_kept(list: &[u64], count: usize) -> bool {
 }
 
 // Prints whether the numbers behind so many pairs are as they came.
-fn print_kept(list: &[u64], count: usize) {
+fn print_kept(rt: &HostRuntime, list: &[u64], count: usize) {
     if is_kept(list, count) {
-        io::write_all(STDOUT_FILENO, b"KEPT\n");
+        desk::print_bytes(rt, b"KEPT\n");
     } else {
-        io::write_all(STDOUT_FILENO, b"ALTERED\n");
+        desk::print_bytes(rt, b"ALTERED\n");
     }
 }
 
 // The number of fields that a rebalancing changed.
-fn print_count(count: usize) {
-    io::write_all(STDOUT_FILENO, b"REBALANCED ");
-    io::print_decimal(STDOUT_FILENO, count as u64);
-    io::write_all(STDOUT_FILENO, b"\n");
+fn print_count(rt: &HostRuntime, count: usize) {
+    desk::print_bytes(rt, b"REBALANCED ");
+    desk::print_decimal(rt, count as u64);
+    desk::print_bytes(rt, b"\n");
 }
 
 // Rebalances a flow, and prints what comes of it.
-fn make(flow: &mut [u8], expected: &[u8], list: &mut [u64]) {
+fn make(rt: &HostRuntime, flow: &mut [u8], expected: &[u8], list: &mut [u64]) {
     match mend::mend(&mut *flow, &mut *list) {
         Mending::Mended(count) => {
-            print_count(count);
-            desk::print_changes(list, count);
-            print_kept(list, count);
-            desk::print_comparison(flow, expected);
-            desk::print_judgement(judge::judge(flow));
+            print_count(rt, count);
+            desk::print_changes(rt, list, count);
+            print_kept(rt, list, count);
+            desk::print_comparison(rt, flow, expected);
+            desk::print_judgement(rt, judge::judge(flow));
         }
         Mending::Refused(number, at, position) => {
-            desk::print_refusal(number, at, position);
-            print_kept(list, 0);
-            desk::print_comparison(flow, expected);
+            desk::print_refusal(rt, number, at, position);
+            print_kept(rt, list, 0);
+            desk::print_comparison(rt, flow, expected);
         }
     }
 }
 
 // Rebalances a flow with a list of so many numbers, if a list can be so long.
-fn make_with(flow: &mut [u8], expected: &[u8], size: usize) -> bool {
+fn make_with(rt: &HostRuntime, flow: &mut [u8], expected: &[u8], size: usize) -> bool {
     if MOST_LIST < size {
         return false;
     }
     let mut list = [0u64; MOST_LIST];
     desk::mark(&mut list);
-    make(flow, expected, &mut list[0..size]);
+    make(rt, flow, expected, &mut list[0..size]);
     true
 }
 
 // One case; false where there is none left.
-fn one_case(fd: i32) -> bool {
+fn one_case(rt: &HostRuntime, cases: &mut File) -> bool {
     let mut head = [0u8; 153];
     let mut flow = [0u8; Flow::MOST_BYTES + 2];
     let mut expected = [0u8; Flow::MOST_BYTES + 2];
-    let got = desk::next_case(fd, &mut head, &mut flow);
-    if got < 0 {
+    let Some(n) = desk::next_case(rt, cases, &mut head, &mut flow) else {
         return false;
-    }
-    let n = io::count(got, &flow);
-    if !desk::read_next(fd, &mut expected, n) {
+    };
+    if !desk::read_next(cases, &mut expected, n) {
         return false;
     }
     let call = desk::numbers_of(head);
-    make_with(&mut flow[0..n], &expected[0..n], call.first as usize)
+    make_with(rt, &mut flow[0..n], &expected[0..n], call.first as usize)
 }
 
 // The cases of one file.
-fn run_file(path: &[u8]) {
-    let fd = desk::open_cases(path);
+fn run_file(rt: &HostRuntime, path: &[u8]) {
+    let Some(mut cases) = desk::open_cases(rt, path) else {
+        return;
+    };
     for _ in 0..desk::MOST_CASES {
-        if !one_case(fd) {
+        if !one_case(rt, &mut cases) {
             break;
         }
     }
-    libc::close(fd);
 }
 
 // The cases whose answers were written by hand, then the flows that the reference has answered.
-fn main() {
-    run_file(b"calls");
-    run_file(b"vectors");
+fn main(rt: HostRuntime) {
+    run_file(&rt, b"calls");
+    run_file(&rt, b"vectors");
 }

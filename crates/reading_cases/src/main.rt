@@ -5,71 +5,70 @@
 #![tactic(auto)]
 
 use desk::Numbers;
-use libc::STDOUT_FILENO;
+use std::fs::File;
 use walk::{Answer, WalkPlace};
 
 // The place after a step.
-fn print_place(shown: usize) {
-    io::write_all(STDOUT_FILENO, b"PLACE ");
-    io::print_decimal(STDOUT_FILENO, shown as u64);
-    io::write_all(STDOUT_FILENO, b"\n");
+fn print_place(rt: &HostRuntime, shown: usize) {
+    desk::print_bytes(rt, b"PLACE ");
+    desk::print_decimal(rt, shown as u64);
+    desk::print_bytes(rt, b"\n");
 }
 
 // A step of a walk from a place: the record that it shows, or that there is no more, or the refusal; and the place after it.
-fn print_step(flow: &[u8], shown: usize) {
+fn print_step(rt: &HostRuntime, flow: &[u8], shown: usize) {
     let step = walk::step_at(flow, WalkPlace { shown });
     let answer = step.answer;
     match answer {
-        Answer::Shown(k) => desk::print_record(k, walk::part_at(flow, answer)),
+        Answer::Shown(k) => desk::print_record(rt, k, walk::part_at(flow, answer)),
         Answer::NoMore => {
-            io::write_all(STDOUT_FILENO, b"NO MORE\n");
+            desk::print_bytes(rt, b"NO MORE\n");
         }
-        Answer::Refused(number, at, position) => desk::print_refusal(number, at, position),
+        Answer::Refused(number, at, position) => desk::print_refusal(rt, number, at, position),
     }
     let next = step.next;
-    print_place(next.shown);
+    print_place(rt, next.shown);
 }
 
 // Makes a call on a flow.
-fn make(flow: &[u8], call: Numbers) {
+fn make(rt: &HostRuntime, flow: &[u8], call: Numbers) {
     let which = call.first;
     if which == 1 {
-        desk::print_delega(flow, call.second);
+        desk::print_delega(rt, flow, call.second);
         return;
     }
     if which == 2 {
-        desk::print_line(flow, call.second, call.third, call.fourth);
+        desk::print_line(rt, flow, call.second, call.third, call.fourth);
         return;
     }
-    print_step(flow, call.second as usize);
+    print_step(rt, flow, call.second as usize);
 }
 
 // One case; false where there is none left.
-fn one_case(fd: i32) -> bool {
+fn one_case(rt: &HostRuntime, cases: &mut File) -> bool {
     let mut head = [0u8; 153];
     let mut flow = [0u8; 65522];
-    let got = desk::next_case(fd, &mut head, &mut flow);
-    if got < 0 {
+    let Some(n) = desk::next_case(rt, cases, &mut head, &mut flow) else {
         return false;
-    }
-    let n = io::count(got, &flow);
-    make(&flow[0..n], desk::numbers_of(head));
+    };
+    make(rt, &flow[0..n], desk::numbers_of(head));
     true
 }
 
 // The cases of one file.
-fn make_all(path: &[u8]) {
-    let fd = desk::open_cases(path);
+fn make_all(rt: &HostRuntime, path: &[u8]) {
+    let Some(mut cases) = desk::open_cases(rt, path) else {
+        return;
+    };
     for _ in 0..desk::MOST_CASES {
-        if !one_case(fd) {
+        if !one_case(rt, &mut cases) {
             break;
         }
     }
-    libc::close(fd);
 }
 
 // The calls whose answers were written by hand, then those on single deleghe that the reference has answered.
-fn main() {
-    make_all(b"calls");
-    make_all(b"vectors");
+fn main(rt: HostRuntime) {
+    make_all(&rt, b"calls");
+    make_all(&rt, b"vectors");
 }

@@ -4,7 +4,7 @@
 // room, and the length is that of the sheet. Below it stand the sheet, a line end, the bytes expected in the room, and a line end.
 #![tactic(auto)]
 
-use libc::STDOUT_FILENO;
+use std::fs::File;
 use write::Writing;
 
 // The longest room of a case, and the longest sheet.
@@ -22,64 +22,63 @@ fn mark(room: &mut [u8]) {
 }
 
 // The length of a flow that was written.
-fn print_length(length: usize) {
-    io::write_all(STDOUT_FILENO, b"WRITTEN ");
-    io::print_decimal(STDOUT_FILENO, length as u64);
-    io::write_all(STDOUT_FILENO, b"\n");
+fn print_length(rt: &HostRuntime, length: usize) {
+    desk::print_bytes(rt, b"WRITTEN ");
+    desk::print_decimal(rt, length as u64);
+    desk::print_bytes(rt, b"\n");
 }
 
 // Writes the flow of a sheet, and prints what comes of it.
-fn make(sheet: &[u8], room: &mut [u8], expected: &[u8]) {
+fn make(rt: &HostRuntime, sheet: &[u8], room: &mut [u8], expected: &[u8]) {
     match write::write(sheet, &mut *room) {
         Writing::Written(length) => {
-            print_length(length);
-            desk::print_comparison(room, expected);
-            desk::print_judgement(judge::judge(&room[..length]));
+            print_length(rt, length);
+            desk::print_comparison(rt, room, expected);
+            desk::print_judgement(rt, judge::judge(&room[..length]));
         }
         Writing::Refused(number, at, position) => {
-            desk::print_refusal(number, at, position);
-            desk::print_comparison(room, expected);
+            desk::print_refusal(rt, number, at, position);
+            desk::print_comparison(rt, room, expected);
         }
     }
 }
 
 // One case; false where there is none left.
-fn one_case(fd: i32) -> bool {
+fn one_case(rt: &HostRuntime, cases: &mut File) -> bool {
     let mut head = [0u8; 153];
     let mut sheet = [0u8; MOST_SHEET + 1];
     let mut room = [0u8; MOST_ROOM];
     let mut expected = [0u8; MOST_ROOM + 1];
-    let got = desk::next_case(fd, &mut head, &mut sheet);
-    if got < 0 {
+    let Some(n) = desk::next_case(rt, cases, &mut head, &mut sheet) else {
         return false;
-    }
-    let n = io::count(got, &sheet);
+    };
     let call = desk::numbers_of(head);
     let size = call.first as usize;
     if MOST_ROOM < size {
         return false;
     }
-    if !desk::read_next(fd, &mut expected, size) {
+    if !desk::read_next(cases, &mut expected, size) {
         return false;
     }
     mark(&mut room);
-    make(&sheet[0..n], &mut room[0..size], &expected[0..size]);
+    make(rt, &sheet[0..n], &mut room[0..size], &expected[0..size]);
     true
 }
 
 // The cases of one file.
-fn run_file(path: &[u8]) {
-    let fd = desk::open_cases(path);
+fn run_file(rt: &HostRuntime, path: &[u8]) {
+    let Some(mut cases) = desk::open_cases(rt, path) else {
+        return;
+    };
     for _ in 0..desk::MOST_CASES {
-        if !one_case(fd) {
+        if !one_case(rt, &mut cases) {
             break;
         }
     }
-    libc::close(fd);
 }
 
 // The cases whose rooms were written by hand, then the sheets that the reference has answered.
-fn main() {
-    run_file(b"sheets");
-    run_file(b"vectors");
+fn main(rt: HostRuntime) {
+    run_file(&rt, b"sheets");
+    run_file(&rt, b"vectors");
 }
