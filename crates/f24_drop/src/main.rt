@@ -7,7 +7,7 @@ use dropping::Dropping;
 use layout::Flow;
 
 // The most numbers that are lent. A flow has fewer deleghe, and a list of more numbers than deleghe is refused with 21, whatever they are: the first of a longer list
-// have the answer of the whole (`Cut-list` of dropping/proofs/Dropped.antt).
+// have the answer of the whole (`cut_list` of dropping/proofs/Dropped.antt).
 const MOST_NUMBERS: usize = Flow::MOST_RECORDS + 1;
 
 // Saves the flow that is left, and prints its judgement.
