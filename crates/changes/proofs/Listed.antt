@@ -60,7 +60,7 @@ none_in k (f ∷ fl) r = rw (stays-itself f r) (none_in k fl r)
 pub none_from : (k : ℕ) (rs : List (List ℕ)) → changed_from k rs rs ≡ []
 unfolding changed_from
 none_from k [] = refl
-none_from k (r ∷ rs) = ap (λ (ps : List Place). ps ++ changed_from (k + 1) rs rs) (none_in (k + 1) (written_fields (kind_in r)) r) ∙ none_from (k + 1) rs
+none_from k (r ∷ rs) = ap (λ (ps : List Place). ps ++ changed_from (k + 1) rs rs) (none_in _ (written_fields (kind_in r)) r) ∙ none_from (k + 1) rs
 
 -- A place in a record is that of a field whose bytes differ.
 pub record DiffersIn (k : ℕ) (fl : List Field) (old new : List ℕ) (p : Place) : Type 0 where

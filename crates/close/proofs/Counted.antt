@@ -21,8 +21,8 @@ pub once-parts : (n d : ℕ) (ds : List ℕ) → each_once n (d ∷ ds) ≡ true
 unfolding named_once
 once-parts n d ds e =
     let p = both_true (named_once n d ds) (each_once n ds) (sym (once-cons n d ds) ∙ e) in
-    let q = both_true (from_to 1 n d) (cond (among d ds) false true) p.0 in
-    (between 1 n d q.0, not-true (among d ds) (turned (among d ds) ∙ q.1), p.1)
+    let q = both_true _ (cond (among d ds) false true) p.0 in
+    (between _ n d q.0, not-true (among d ds) (turned (among d ds) ∙ q.1), p.1)
 
 module _ (d : ℕ) (ds : List ℕ) where
   -- Another number is among the list with this one where it is without it.

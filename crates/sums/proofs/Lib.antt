@@ -1,2 +1,3 @@
 pub mod Adding
+pub mod Comparing
 pub mod Equality

@@ -14,6 +14,7 @@ use Rattle.words.proofs.Fields.{word-at-most, paired, paired-length, paired-at-m
 use Rattle.words.proofs.AllDigits.{AllDigits, values, values_length, values-at-most, horner, digits-say, say-none}
 use Rattle.words.proofs.AllDigits.AllDigits.{no_more, one_more}
 use Rattle.words.proofs.TopBits.{top-clear, clear-top}
+use Rattle.words.proofs.WholeTests.{test_of}
 
 -- The exclusive or of a digit and 48 is what the digit says.
 digit-bits : (b : ℕ) → 48 ≤ b → b ≤ 57 → bit_xor b 48 ≡ b - 48
@@ -106,10 +107,6 @@ unfolding word_by
 one_field k f [] e = absurd (omega arith)
 one_field k f (x ∷ []) e = omega arith
 one_field k f (x ∷ y ∷ l) e = absurd (omega arith)
-
--- The test of a word: 0 where each of its eight characters is a digit.
-abbrev pub test_of : ℕ → ℕ
-test_of w = bit_and (bit_xor w 0x3030_3030_3030_3030 + 0x7676_7676_7676_7676) 0x8080_8080_8080_8080
 
 -- The three steps of the reading.
 abbrev pub pairs_of : ℕ → ℕ

@@ -18,7 +18,8 @@ use Rattle.text.proofs.Numerals.{number-below}
 use Rattle.words.proofs.Fields.{allowed-at-most, at-most-take, at-most-drop, at-most-part, at-most-append, word-inj}
 use Rattle.words.proofs.AllDigits.{AllDigits, values, values_length, horner, digits-say, say-digits, say-none}
 use Rattle.words.proofs.AllDigits.AllDigits.{no_more, one_more}
-use Rattle.words.proofs.TopBits.{tops_of, tops-clear, tops-set}
+use Rattle.words.proofs.TopBits.{tops-clear, tops-set}
+use Rattle.words.proofs.WholeTests.{tops_of}
 
 -- How many characters stand before does not matter to the amount that is said.
 amount-shift : (l : List ℕ) (i j a : ℕ) → fifteen_of (number_from i a l) ≡ fifteen_of (number_from j a l)

@@ -1,5 +1,6 @@
 pub mod Fields
 pub mod AllDigits
+pub mod WholeTests
 pub mod TopBits
 pub mod EightDigits
 pub mod FifteenDigits

@@ -9,6 +9,7 @@ use lib.Dec.{lit<}
 use lib.ListN.{length, replicate}
 use Rattle.words.specs.Words.{word_by, word, AtMost}
 use Rattle.words.specs.Words.AtMost.{none, also}
+use Rattle.words.proofs.WholeTests.{tops_of}
 use Rattle.words.proofs.AllDigits.{AllDigits}
 use Rattle.words.proofs.AllDigits.AllDigits.{one_more}
 
@@ -52,10 +53,6 @@ digits-tops (b ∷ bs) (one_more h j p) =
     let e = digits-tops bs p in
     let f = top-clear b (omega arith) in
     omega arith
-
--- The top bits of a word of eight bytes.
-abbrev pub tops_of : ℕ → ℕ
-tops_of w = bit_and w 0x8080_8080_8080_8080
 
 module _ (l : List ℕ) (p : AtMost 255 l) (e : length l ≡ 8) where
   eight-tops : tops_of (word l) ≡ word (tops l)

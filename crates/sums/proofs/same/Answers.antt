@@ -2,7 +2,7 @@ use mathlib.Core.Path.{refl}
 use native.Mathlib.Omega.{arith}
 use borrow.Author.Rules.{rules}
 use Rattle.rules.proofs.Arrays.{struct-array}
-use Rattle.sums.proofs.Equality.{debit-differs, credit-differs, comparing-on, comparing-end}
+use Rattle.sums.proofs.Comparing.{debit-differs, credit-differs, comparing-on, comparing-end}
 use Rattle.sums.proofs.same.Goals as goal
 
 pub loop-i-init : goal.loop-i-init

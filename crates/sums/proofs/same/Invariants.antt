@@ -1,6 +1,6 @@
 -- `sums::same` meets its contract. The loop's invariant: the sections that are left say what all say. The measure is how many are left.
 use Prim.Native.Nat.{◌-◌}
-use Rattle.sums.proofs.Equality.{Comparing}
+use Rattle.sums.proofs.Comparing.{Comparing}
 use Rattle.sums.proofs.same.Given as goal
 
 abbrev pub invariant-loop-i : goal.invariant-loop-i

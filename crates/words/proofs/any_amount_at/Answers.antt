@@ -4,7 +4,7 @@ use mathlib.Core.Path.{sym, ap, ◌∙◌}
 use native.Mathlib.Omega.{arith}
 use Rattle.words.specs.Words.{AtMost, Halves}
 use Rattle.words.proofs.Fields.{at-most-each}
-use Rattle.words.proofs.TopBits.{tops_of}
+use Rattle.words.proofs.WholeTests.{tops_of}
 use Rattle.words.proofs.FifteenDigits.{halves-at, clear-fifteen, set_front, set_back}
 use Rattle.words.proofs.any_amount_at.Goals as goal
 use Rattle.words.proofs.any_amount_at.Goals.{After-word_at-back, Else-back-ne0}
