@@ -22,7 +22,7 @@ unfoldable pub numbers_of : List ℕ → Numbers
 numbers_of head =
     record { first = number_at 41 head; second = number_at 62 head; third = number_at 83 head; fourth = number_at 104 head; fifth = number_at 125 head }
 
--- how many bytes a flow has; more than any room holds where the digits say no number
+-- how many bytes a flow has; more than any room of a flow holds where the digits say no number
 abbrev pub size_read : Digits → ℕ
 size_read (Read.Number n) = n
 size_read (Read.NonDigit i) = 99999

@@ -101,7 +101,7 @@ pub fn mark(list: &mut [u64])
     }
 }
 
-// How many bytes the flow of a run case has; more than any room holds where the digits are none.
+// How many bytes the flow of a run case has; more than any room of a flow holds where the digits are none.
 fn size_of(digits: &[u8]) -> usize
     ensures { result ≡ size_of digits.now }
 {
@@ -112,7 +112,7 @@ fn size_of(digits: &[u8]) -> usize
     }
 }
 
-// The length that stands in the last six digits of a header, before its line end; more than any room holds where the header is too short for one.
+// The length that stands in the last six digits of a header, before its line end; more than any room of a flow holds where the header is too short for one.
 fn length_in(head: &[u8]) -> usize
     ensures { result ≡ length_in head.now }
 {
@@ -175,7 +175,7 @@ pub fn next_case<R: Read>(
 
 // Prints whether the bytes that a run case has left are the expected ones.
 pub fn print_comparison(rt: &HostRuntime, left: &[u8], expected: &[u8]) {
-    if text::same_bytes(left, expected) {
+    if amounts::same_bytes(left, expected) {
         print_bytes(rt, b"SAME\n");
     } else {
         print_bytes(rt, b"DIFFERENT\n");

@@ -1,5 +1,5 @@
 // A flow saved in a file: what the programs that save one have in common.
-ghost use Rattle.std.specs.Prelude.{◌≡◌, ◌≤◌, length, take};
+ghost use Rattle.std.specs.Prelude.{◌≡◌, ◌-◌, ◌≤◌, length, take};
 
 use crate::messages::{begin_line, fail, tell};
 use crate::reading::{NO_ARGUMENT, text_of};
@@ -60,7 +60,9 @@ fn letter(chance: u8) -> u8 {
 }
 
 // Puts six characters by chance at the end of a name.
-fn choose(rt: &HostRuntime, name: &mut [u8]) -> io::Result<()> {
+fn choose(rt: &HostRuntime, name: &mut [u8]) -> io::Result<()>
+    ensures { take (length name.old - 6) name.new ≡ take (length name.old - 6) name.old }
+{
     let mut chances = [0u8; 6];
     rt.fill_bytes(&mut chances)?;
     let mut i: usize = 0;
@@ -86,8 +88,11 @@ pub fn create(rt: &HostRuntime, path: &[u8], mode: u32) -> io::Result<File> {
 // How many names are tried for a new file. That each is taken does not happen.
 const MOST_NAMES: usize = 10_000;
 
-// Makes a file whose name ends in six characters that are chosen by chance, until nothing has that name. A name that is shorter is none.
-pub fn create_beside(rt: &HostRuntime, name: &mut [u8], mode: u32) -> io::Result<File> {
+// Makes a file whose name ends in six characters that are chosen by chance, until nothing has that name. A name that is shorter is none. What stands before them
+// stays, whatever is answered.
+pub fn create_beside(rt: &HostRuntime, name: &mut [u8], mode: u32) -> io::Result<File>
+    ensures { take (length name.old - 6) name.new ≡ take (length name.old - 6) name.old }
+{
     if name.len() < 6 {
         return Err(io::Error::from_raw_os_error(NO_ARGUMENT));
     }
