@@ -1,16 +1,16 @@
 -- Laws of the first outcome that is a fault: where it is none, each is none; and it may be looked for part by part.
+use Rattle.std.specs.Prelude.{Err}
 use mathlib.Core.Path.{◌≡◌, refl, sym, ap, ◌∙◌}
 use mathlib.Core.List.{List, [], ◌∷◌, ◌++◌}
 use native.Mathlib.Omega.{arith}
 use Prim.Native.Nat.{ℕ}
-use Rattle.amounts.specs.declared.Outcome.{Outcome}
-use Rattle.amounts.specs.declared.Outcome.TheVariants.{Pass, Fault}
+use Rattle.refusal.specs.Outcomes.{Outcome, Pass, Fails}
 use Rattle.amounts.specs.Outcomes.{first, first_of}
 
 -- neither of two that pass together fails
 pub first-pass : (a b : Outcome) → first a b ≡ Pass → (a ≡ Pass) × (b ≡ Pass)
 first-pass Pass b e = (refl, e)
-first-pass (Fault n p) b e = let z : ◌≡◌ {A = ℕ} 0 1 = cc in absurd (omega arith)
+first-pass (Err why) b e = let z : ◌≡◌ {A = ℕ} 0 1 = cc in absurd (omega arith)
 
 pub five-pass : (a b c d e : Outcome) → first a (first b (first c (first d e))) ≡ Pass → (a ≡ Pass) × (b ≡ Pass) × (c ≡ Pass) × (d ≡ Pass) × (e ≡ Pass)
 five-pass a b c d e h =
@@ -22,11 +22,11 @@ five-pass a b c d e h =
 
 pub first-assoc : (a b c : Outcome) → first (first a b) c ≡ first a (first b c)
 first-assoc Pass b c = refl
-first-assoc (Fault n p) b c = refl
+first-assoc (Err why) b c = refl
 
 pub first-none : (o : Outcome) → first o Pass ≡ o
 first-none Pass = refl
-first-none (Fault n p) = refl
+first-none (Err why) = refl
 
 pub first_of-cons : (o : Outcome) (os : List Outcome) → first_of (o ∷ os) ≡ first o (first_of os)
 first_of-cons o [] = sym (first-none o)

@@ -2,8 +2,7 @@
 use Rattle.std.specs.Prelude.{ℕ, ◌+◌, ◌-◌, Bool, true, false, cond, eqb, ltb}
 use Rattle.layout.specs.Sections.{section_at}
 use Rattle.amounts.specs.declared.Sums.{Sums}
-use Rattle.amounts.specs.declared.Outcome.{Outcome}
-use Rattle.amounts.specs.declared.Outcome.TheVariants.{Pass, Fault}
+use Rattle.refusal.specs.Outcomes.{Outcome, Pass, Fails}
 
 -- "The sign is N when debits are below credits, P in all other cases, zero included"
 unfoldable pub sign_of : ℕ → ℕ → ℕ
@@ -29,4 +28,4 @@ line_right s d c = cond (eqb d 0) (cond (eqb c 0) false (credit_right s c)) (cre
 unfoldable pub line_fault : ℕ → ℕ → ℕ → Outcome
 line_fault s d c =
     cond (line_right s d c) Pass
-    (cond (eqb d 0) (cond (eqb c 0) (Fault 9 ((section_at s).debit + 1)) (Fault 9 ((section_at s).credit + 1))) (Fault 9 ((section_at s).credit + 1)))
+    (cond (eqb d 0) (cond (eqb c 0) (Fails 9 ((section_at s).debit + 1)) (Fails 9 ((section_at s).credit + 1))) (Fails 9 ((section_at s).credit + 1)))

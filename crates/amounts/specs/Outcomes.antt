@@ -1,12 +1,11 @@
 -- Believed. The outcome of a check: it passes, or it has a fault with a number and a position.
-use Rattle.std.specs.Prelude.{List, [], ◌∷◌}
-use Rattle.amounts.specs.declared.Outcome.{Outcome}
-use Rattle.amounts.specs.declared.Outcome.TheVariants.{Pass, Fault}
+use Rattle.std.specs.Prelude.{List, [], ◌∷◌, Err}
+use Rattle.refusal.specs.Outcomes.{Outcome, Pass, Fails}
 
 -- the first of two outcomes that is a fault
 abbrev pub first : Outcome → Outcome → Outcome
 first Pass o = o
-first (Fault n p) o = Fault n p
+first (Err why) o = Err why
 
 -- the first of several outcomes that is a fault
 abbrev pub first_of : List Outcome → Outcome

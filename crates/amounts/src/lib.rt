@@ -1,4 +1,4 @@
-// The rules on what a field holds: amounts, dates and support names; and the outcome of a check.
+// The rules on what a field holds: amounts, dates and support names.
 #![tactic(auto)]
 
 mod dates;
@@ -9,19 +9,13 @@ ghost use Rattle.amounts.specs.Amounts.{sign_of, apart, final_of, credit_right, 
 
 pub use dates::date_right;
 pub use names::{name_right, same_bytes};
+use refusal::Fault;
 
 // A debit and a credit sum.
 #[derive(Clone, Copy)]
 pub struct Sums {
     pub debit: u64,
     pub credit: u64,
-}
-
-// The first failed check of a record, its number and position, or none.
-#[derive(Clone, Copy)]
-pub enum Outcome {
-    Pass,
-    Fault(u64, usize),
 }
 
 // The sign of a section whose sums are d and c: N or P.
@@ -72,17 +66,23 @@ pub fn line_right(s: usize, d: u64, c: u64) -> bool
 }
 
 // Check 9.
-pub fn line_fault(s: usize, d: u64, c: u64) -> Outcome
+pub fn line_fault(s: usize, d: u64, c: u64) -> Result<(), Fault>
     ensures { result ≡ line_fault s d c }
 {
     if line_right(s, d, c) {
-        return Outcome::Pass;
+        return Ok(());
     }
     let section = layout::section_at(s);
     if d == 0 {
         if c == 0 {
-            return Outcome::Fault(9, section.debit + 1);
+            return Err(Fault {
+                number: 9,
+                position: section.debit + 1,
+            });
         }
     }
-    Outcome::Fault(9, section.credit + 1)
+    Err(Fault {
+        number: 9,
+        position: section.credit + 1,
+    })
 }

@@ -2,7 +2,7 @@
 use Prim.Native.Nat.{ℕ}
 use mathlib.Core.Path.{◌≡◌, sym, ◌∙◌}
 use mathlib.Core.List.{List}
-use Rattle.args.specs.declared.Argument.{Argument}
+use Rattle.args.specs.Answers.{Argument}
 use Rattle.args.specs.Decimal.{decimal_of}
 
 -- "any two answers allowed by it are equal"

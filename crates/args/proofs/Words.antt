@@ -6,10 +6,10 @@ use mathlib.Core.List.{List, [], ◌∷◌}
 use native.Mathlib.Omega.{arith}
 use borrow.Author.Tests.{lt-ltb, le-ltb, eq-eqb, ne_eqb}
 use lib.ListN.{length, drop, get_or}
-use Rattle.text.specs.declared.Digits.TheVariants as Read
+use Rattle.text.specs.Answers as Read
 use Rattle.text.specs.Numbers.{digit, number_from, number_of}
 use Rattle.text.proofs.Numerals.{number-low, number-high, number-on, number-end}
-use Rattle.args.specs.declared.Argument.TheVariants.{Number, NoNumber}
+use Rattle.args.specs.Answers.{Number, NoNumber}
 use Rattle.args.specs.Decimal.{fitting, decimal_of}
 
 -- the tests on the length

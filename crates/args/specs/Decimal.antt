@@ -1,10 +1,9 @@
 -- Believed. The number that a word says: one to twenty digits and nothing else, where 64 bits hold it.
 use Rattle.std.specs.Prelude.{ℕ, ◌^◌, cond, List, eqb, ltb, length}
-use Rattle.text.specs.declared.Digits.{Digits}
-use Rattle.text.specs.declared.Digits.TheVariants as Read
+use Rattle.text.specs.Answers.{Digits}
+use Rattle.text.specs.Answers as Read
 use Rattle.text.specs.Numbers.{number_of}
-use Rattle.args.specs.declared.Argument.{Argument}
-use Rattle.args.specs.declared.Argument.TheVariants.{Number, NoNumber}
+use Rattle.args.specs.Answers.{Argument, Number, NoNumber}
 
 -- a number of at most 64 bits; a word with a byte that is no digit says none
 abbrev pub fitting : Digits → Argument

@@ -15,7 +15,7 @@ use Rattle.rebalance.proofs.Rebalanced.{mendable-fits}
 use Rattle.rebalance.proofs.Weighed.{mendable-positive}
 use Rattle.rebalance.proofs.Judged.{accepted-untouched, accepted-mends}
 use Rattle.find.specs.Line.{line_of}
-use Rattle.correct.specs.declared.Correction.TheVariants.{Made}
+use Rattle.correct.specs.Answers.{Made}
 use Rattle.correct.specs.Correction.{section_of, correction_of, corrected_bytes}
 use Rattle.correct.specs.Effect.{with_amounts, debit_of, credit_of}
 use Rattle.correct.proofs.Amended.{debit-amended, credit-amended}

@@ -4,8 +4,7 @@ use mathlib.Core.Path.{◌≡◌, sym, ap, ap₂, ◌∙◌}
 use mathlib.Core.List.{List}
 use native.Mathlib.Omega.{arith}
 use lib.ListN.{length, take, drop, get_or}
-use Rattle.text.specs.declared.Characters.TheVariants.{Allowed}
-use Rattle.text.specs.declared.Digits.TheVariants.{Number}
+use Rattle.text.specs.Answers.{Allowed, Number}
 use Rattle.text.specs.Characters.{first_bad}
 use Rattle.text.specs.Numbers.{digits_of, number_of}
 use Rattle.text.specs.Placing.{put_at}

@@ -1,4 +1,5 @@
 -- What a correction answers, and when: one way for each answer, and the answer for each way.
+use Rattle.std.specs.Prelude.{Err}
 use Prim.Native.Nat.{ℕ, ◌≤◌, ◌<◌}
 use mathlib.Core.Path.{◌≡◌, refl, sym, ap₂, ◌∙◌}
 use mathlib.Core.Bool.{Bool, true, false, true≢false}
@@ -9,14 +10,13 @@ use native.Mathlib.Decide.{ℕ_discrete, dec_lt}
 use borrow.Author.Tests.{eq-eqb, ne_eqb}
 use Rattle.rules.specs.State.{start_state}
 use Rattle.amounts.specs.Amounts.{line_right}
-use Rattle.judge.specs.declared.Verdict.{Verdict}
-use Rattle.judge.specs.declared.Verdict.TheVariants as Judged
+use Rattle.judge.specs.Refusal.{Verdict}
+use Rattle.judge.specs.Refusal as Judged
 use Rattle.judge.specs.Flow.{records_of, judged}
 use Rattle.rebalance.specs.Rebalance.{all_fit}
 use Rattle.rebalance.specs.Weigh.{any_negative}
 use Rattle.find.specs.Line.{line_of, found_in}
-use Rattle.correct.specs.declared.Correction.{Correction}
-use Rattle.correct.specs.declared.Correction.TheVariants.{Made, Refused}
+use Rattle.correct.specs.Answers.{Correction, Made, Refused}
 use Rattle.correct.specs.Correction.{section_of, outcome_of, weighed, tried, correction_of}
 use Rattle.correct.specs.Effect.{with_amounts}
 use Rattle.correct.specs.WhenRefused.{HasLine, Large, Negative, Overflows, new_records, Tried22, Tried9, Tried14, Tried23, MayBeMade, Answers, AsFlow, NoLine, TooLarge, WrongLine, TurnsNegative, HasNoRoom, IsMade}
@@ -185,7 +185,7 @@ module _ (f : List ℕ) (d subtype n x y : ℕ) where
 
       by-verdict : (v : Verdict) → (judged f).verdict ≡ v → (c : Correction) × Answers f d subtype n x y c
       by-verdict Judged.Accepted a = by-line a (ℕ_discrete k 0)
-      by-verdict (Judged.Refused m r p) e = (Refused m r p, AsFlow e)
+      by-verdict (Err why) e = (Refused why.number why.«record» why.position, AsFlow e)
 
   -- "Every call on a flow judges it first"; "A correction then tries 21, 22, 9, 14, 23 in this order": each is answered exactly when it should be.
   pub answered-exactly : (c : Correction) → (answer ≡ c) ↔ Answers f d subtype n x y c

@@ -3,7 +3,7 @@ use Prim.Native.Nat.{ℕ, ◌%◌}
 use mathlib.Core.Path.{◌≡◌, refl, sym, ap, ◌∙◌}
 use mathlib.Core.List.{List, [], ◌∷◌}
 use lib.ListN.{length}
-use Rattle.judge.specs.declared.Verdict.TheVariants.{Accepted}
+use Rattle.judge.specs.Refusal.{Accepted}
 use Rattle.judge.specs.Flow.{judged}
 use Rattle.rebalance.specs.Rebalance.{refreshed}
 use Rattle.correct.specs.Effect.{Call, after, AllMade, Different, EachOne, EachTwo, Reordered, None, Keep, Swap, Then}

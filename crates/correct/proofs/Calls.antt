@@ -3,13 +3,13 @@ use Prim.Native.Nat.{ℕ, ◌%◌}
 use mathlib.Core.Path.{◌≡◌, refl, sym, ap, ap₂, ◌∙◌}
 use mathlib.Core.List.{List, [], ◌∷◌}
 use lib.ListN.{length}
-use Rattle.judge.specs.declared.Verdict.TheVariants.{Accepted}
+use Rattle.judge.specs.Refusal.{Accepted}
 use Rattle.judge.specs.Flow.{judged}
 use Rattle.rebalance.specs.Rebalance.{refreshed}
 use Rattle.rebalance.proofs.Judged.{accepted-untouched}
 use Rattle.find.specs.Line.{line_of}
 use Rattle.find.proofs.NamedLine.{named-line, one_name}
-use Rattle.correct.specs.declared.Correction.TheVariants.{Made}
+use Rattle.correct.specs.Answers.{Made}
 use Rattle.correct.specs.Correction.{outcome_of, weighed}
 use Rattle.correct.specs.Effect.{with_amounts, Call, answer_to, after, AllMade, Different, EachOne}
 use Rattle.correct.proofs.Split.{line-splits, length-replaced}

@@ -6,7 +6,7 @@ use mathlib.Core.Logic.{◌↔◌}
 use borrow.Author.Tests.{ne_eqb}
 use Rattle.rebalance.specs.Rebalance.{refreshed}
 use Rattle.find.specs.Line.{line_of, found_in}
-use Rattle.correct.specs.declared.Correction.TheVariants.{Made, Refused}
+use Rattle.correct.specs.Answers.{Made, Refused}
 use Rattle.correct.specs.Correction.{correction_of, corrected_bytes}
 use Rattle.correct.specs.Effect.{with_amounts}
 use Rattle.correct.specs.WhenRefused.{Answers, IsMade}

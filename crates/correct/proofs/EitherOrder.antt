@@ -1,4 +1,5 @@
 -- "Two clerks, two lines" (02, ask 13): both orders made, the ends agree byte for byte; of an order whose other way round is made only the first call can be refused.
+use Rattle.std.specs.Prelude.{Err}
 use Prim.Native.Nat.{ℕ, ◌%◌, ◌≤◌}
 use mathlib.Core.Path.{◌≡◌, refl, sym, ap, ◌∙◌}
 use mathlib.Core.Bool.{true, true≢false}
@@ -9,8 +10,7 @@ use lib.ListN.{length}
 use Rattle.amounts.specs.Amounts.{line_right}
 use Rattle.judge.specs.declared.Judgement.{Judgement}
 use Rattle.rebalance.specs.Rebalance.{refreshed}
-use Rattle.correct.specs.declared.Correction.{Correction}
-use Rattle.correct.specs.declared.Correction.TheVariants.{Made, Refused}
+use Rattle.correct.specs.Answers.{Correction, Made, Refused}
 use Rattle.correct.specs.Correction.{section_of, weighed}
 use Rattle.correct.specs.Effect.{Call, answer_to, after, AllMade, Different, Swap}
 use Rattle.correct.specs.WhenRefused.{Answers, AsFlow, NoLine, TooLarge, WrongLine, TurnsNegative, HasNoRoom, IsMade}
@@ -66,7 +66,7 @@ module _ (f : List ℕ) (a b : Call) (different : Different a b) (made : AllMade
     where
       go : (c : Correction) → answer_to f b ≡ c → answer_to (after (b ∷ []) f) a ≡ Made
       go Made e = (other-order-made e).1.0
-      go (Refused m r p) e = ap (λ (g : List ℕ). answer_to g a) (refused-untouched f b.delega b.subtype b.nth b.debit b.credit e) ∙ made.0
+      go (Err why) e = ap (λ (g : List ℕ). answer_to g a) (refused-untouched f b.delega b.subtype b.nth b.debit b.credit e) ∙ made.0
 
   -- "One order may be refused where the other isn't": that call is made, or refused 14 or 23.
   pub other-order-first : (answer_to f b ≡ Made) ⊎ ((answer_to f b ≡ Refused 14 0 0) ⊎ (answer_to f b ≡ Refused 23 0 0))
@@ -97,4 +97,4 @@ module _ (f : List ℕ) (a b : Call) (different : Different a b) (made : AllMade
       go Made e =
           ap (after (b ∷ [])) (sym (either_order f a b different made.0 made.1.0 e (other-order-made e).1.0))
           ∙ (correct-again (after (a ∷ []) f) b.delega b.subtype b.nth b.debit b.credit made.1.0).1
-      go (Refused m r p) e = ap (after (a ∷ b ∷ [])) (refused-untouched f b.delega b.subtype b.nth b.debit b.credit e)
+      go (Err why) e = ap (after (a ∷ b ∷ [])) (refused-untouched f b.delega b.subtype b.nth b.debit b.credit e)

@@ -16,7 +16,7 @@ use Rattle.rules.specs.declared.State.{State}
 use Rattle.rules.specs.State.{start_state}
 use Rattle.rules.specs.Checks.{number_fault}
 use Rattle.rules.specs.Step.{next_deleghe, next}
-use Rattle.judge.specs.declared.Verdict.TheVariants.{Accepted}
+use Rattle.judge.specs.Refusal.{Accepted}
 use Rattle.judge.specs.Flow.{records_of, head_name_of, judged}
 use Rattle.judge.specs.Plain.{state_after}
 use Rattle.judge.proofs.Accepted.{accepted-means-no-fault, sound-phase, carried-number}

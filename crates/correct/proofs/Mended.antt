@@ -5,7 +5,7 @@ use mathlib.Core.Bool.{Bool, true, false, cond}
 use mathlib.Core.List.{List, [], ◌∷◌, ◌++◌}
 use lib.Dec.{eqb, lit≤}
 use lib.ListN.{length}
-use Rattle.text.specs.declared.Digits.TheVariants.{Number}
+use Rattle.text.specs.Answers.{Number}
 use Rattle.text.specs.Characters.{first_bad}
 use Rattle.text.specs.Numbers.{number_of}
 use Rattle.layout.specs.declared.Kind.{Kind}
@@ -15,7 +15,7 @@ use Rattle.layout.specs.Kinds.{kind_in}
 use Rattle.layout.specs.Fields.{amount_at, delega_number, bytes_of, value_of}
 use Rattle.amounts.specs.declared.Sums.{Sums}
 use Rattle.rules.specs.declared.State.{State}
-use Rattle.amounts.specs.declared.Outcome.TheVariants.{Pass, Fault}
+use Rattle.refusal.specs.Outcomes.{Pass, Fails}
 use Rattle.amounts.specs.Amounts.{line_right, line_fault}
 use Rattle.rules.specs.Stored.{stored_of}
 use Rattle.rules.specs.Checks.{char_fault, bad_fields, negative_fault, own_fault}
@@ -75,7 +75,7 @@ right_of : (s x y : ℕ) → line_fault s x y ≡ Pass → line_right s x y ≡ 
 unfolding line_fault
 right_of s x y e = go (line_right s x y) (eqb x 0) (eqb y 0) e
   where
-    go : (t u v : Bool) → cond t Pass (cond u (cond v (Fault 9 ((section_at s).debit + 1)) (Fault 9 ((section_at s).credit + 1))) (Fault 9 ((section_at s).credit + 1))) ≡ Pass → t ≡ true
+    go : (t u v : Bool) → cond t Pass (cond u (cond v (Fails 9 ((section_at s).debit + 1)) (Fails 9 ((section_at s).credit + 1))) (Fails 9 ((section_at s).credit + 1))) ≡ Pass → t ≡ true
     go true u v e = refl
     go false true true e = cc
     go false true false e = cc

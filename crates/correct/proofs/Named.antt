@@ -5,12 +5,11 @@ use mathlib.Core.List.{List}
 use Rattle.judge.specs.Plain.{Whole}
 use Rattle.judge.proofs.Accepted.{accepted-means-no-fault}
 use Rattle.rebalance.specs.Rebalance.{refreshed}
-use Rattle.find.specs.declared.Found.TheVariants as Answer
+use Rattle.find.specs.Answers as Answer
 use Rattle.find.specs.Line.{found_in}
 use Rattle.find.proofs.NamedLine.{found-exactly}
 use Rattle.find.proofs.FoundPart.{found-accepted, found_part}
-use Rattle.correct.specs.declared.Correction.{Correction}
-use Rattle.correct.specs.declared.Correction.TheVariants.{Refused}
+use Rattle.correct.specs.Answers.{Correction, Refused}
 use Rattle.correct.specs.Correction.{section_of, replaced, tried, bytes_after, correction_of, corrected_bytes}
 use Rattle.correct.specs.Writing.{KthLine}
 use Rattle.correct.proofs.Split.{line-splits, line-found, within-table}

@@ -8,7 +8,7 @@ use lib.Seq.{get_or_at}
 use Rattle.text.specs.Numbers.{amount_of}
 use Rattle.rules.specs.State.{start_state}
 use Rattle.layout.specs.Fields.{value_of}
-use Rattle.judge.specs.declared.Verdict.TheVariants.{Accepted}
+use Rattle.judge.specs.Refusal.{Accepted}
 use Rattle.judge.specs.Flow.{records_of, judged}
 use Rattle.judge.specs.Part.{record_at}
 use Rattle.judge.specs.Plain.{Debit, Credit, column_of}

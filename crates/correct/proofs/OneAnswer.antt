@@ -2,7 +2,7 @@
 use Prim.Native.Nat.{ℕ}
 use mathlib.Core.Path.{◌≡◌, sym, ◌∙◌}
 use mathlib.Core.List.{List}
-use Rattle.correct.specs.declared.Correction.{Correction}
+use Rattle.correct.specs.Answers.{Correction}
 use Rattle.correct.specs.Correction.{correction_of, corrected_bytes}
 
 -- "any two answers allowed by it are equal", and so is "the state of each lent byte afterwards"

@@ -18,7 +18,7 @@ use Rattle.layout.specs.Sections.{section_at}
 use Rattle.layout.specs.Kinds.{kind_in}
 use Rattle.layout.specs.Fields.{amount_at, delega_number, final_balance, tail_sum, value_of, in_columns}
 use Rattle.rules.specs.declared.State.{State}
-use Rattle.amounts.specs.declared.Outcome.TheVariants.{Pass}
+use Rattle.refusal.specs.Outcomes.{Pass}
 use Rattle.rules.specs.State.{start_state}
 use Rattle.rules.specs.Stored.{section_sums, stored_of}
 use Rattle.rules.specs.Checks.{carried, number_fault, fault}
@@ -36,7 +36,7 @@ use Rattle.rebalance.proofs.Rebalanced.{sized-rebalanced}
 use Rattle.rebalance.proofs.Flat.{flat-byte}
 use Rattle.rebalance.proofs.Judged.{sized-records, flat-records}
 use Rattle.find.specs.Line.{line_of}
-use Rattle.correct.specs.declared.Correction.TheVariants.{Made}
+use Rattle.correct.specs.Answers.{Made}
 use Rattle.correct.specs.Correction.{section_of, correction_of, corrected_bytes}
 use Rattle.correct.specs.Effect.{with_amounts}
 use Rattle.correct.specs.Writing.{amounts_put}

@@ -1,4 +1,5 @@
 -- "a correction in one delega leaves the sums reported for every other delega the same" (02, ask 13): the whole answer for another delega is what it was.
+use Rattle.std.specs.Prelude.{Err}
 use Prim.Native.Nat.{ℕ}
 use mathlib.Core.Path.{◌≡◌, refl, sym, ap, ap₂, ◌∙◌}
 use mathlib.Core.Bool.{Bool, true, false, cond}
@@ -19,8 +20,7 @@ use Rattle.delega.proofs.Asked.{by_count, delega-of-accepted, closes-own}
 use Rattle.rebalance.specs.Rebalance.{refreshed}
 use Rattle.rebalance.proofs.Rewritten.{AllLike}
 use Rattle.find.specs.Line.{line_of}
-use Rattle.correct.specs.declared.Correction.{Correction}
-use Rattle.correct.specs.declared.Correction.TheVariants.{Made, Refused}
+use Rattle.correct.specs.Answers.{Correction, Made, Refused}
 use Rattle.correct.specs.Correction.{section_of, correction_of, corrected_bytes}
 use Rattle.correct.specs.Effect.{with_amounts, Call, after, EachOne}
 use Rattle.correct.proofs.Amended.{amended}
@@ -99,7 +99,7 @@ other-deleghe-same f d subtype n x y e other = go (correction_of f d subtype n x
   where
     go : (c : Correction) → correction_of f d subtype n x y ≡ c → delega_of (corrected_bytes f d subtype n x y) e ≡ delega_of f e
     go Made made = ap (λ (l : List ℕ). delega_of l e) (made_bytes f d subtype n x y made) ∙ refreshed-delega f d subtype n x y ((made-passed f d subtype n x y).0 made) e other
-    go (Refused _ _ _) refused = ap (λ (l : List ℕ). delega_of l e) (refused-untouched f d subtype n x y refused)
+    go (Err why) refused = ap (λ (l : List ℕ). delega_of l e) (refused-untouched f d subtype n x y refused)
 
 -- So do calls one after the other, none of them in that delega.
 pub series-others-same : (cs : List Call) (f : List ℕ) (e : ℕ) → EachOne (λ c. e ≡ c.delega → ⊥) cs → delega_of (after cs f) e ≡ delega_of f e

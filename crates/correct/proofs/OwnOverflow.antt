@@ -16,7 +16,7 @@ use Rattle.rules.specs.State.{no_sums, start_state}
 use Rattle.amounts.specs.Amounts.{apart, final_of}
 use Rattle.rules.specs.Stored.{stored_section, stored_of}
 use Rattle.rules.specs.Step.{next}
-use Rattle.judge.specs.declared.Verdict.TheVariants.{Accepted}
+use Rattle.judge.specs.Refusal.{Accepted}
 use Rattle.judge.specs.Flow.{records_of, head_name_of, judged}
 use Rattle.judge.specs.Plain.{Debit, Credit, lines_in, state_after}
 use Rattle.judge.proofs.Accepted.{accepted-means-no-fault}

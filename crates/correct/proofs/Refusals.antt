@@ -1,4 +1,5 @@
 -- Demand 3: when a correction is refused 21, 22, 9, 14 or 23, when its refusal is the flow's, and when it is made.
+use Rattle.std.specs.Prelude.{Err}
 use Prim.Native.Nat.{ℕ, ◌≤◌}
 use mathlib.Core.Path.{◌≡◌, refl, sym, ap, ◌∙◌}
 use mathlib.Core.Bool.{false}
@@ -6,14 +7,14 @@ use mathlib.Core.List.{List}
 use mathlib.Core.Logic.{◌⊎◌, ◌↔◌}
 use native.Mathlib.Omega.{arith}
 use Rattle.amounts.specs.Amounts.{line_right}
-use Rattle.judge.specs.declared.Verdict.{Verdict}
-use Rattle.judge.specs.declared.Verdict.TheVariants as Judged
-use Rattle.judge.specs.Refusal.{Refusal, refusal, no_refusal, refusal_of}
+use Rattle.judge.specs.Refusal.{Verdict, refusal_of}
+use Rattle.judge.specs.Refusal as Judged
+use Rattle.refusal.specs.declared.Refusal.{Refusal}
+use Rattle.refusal.specs.Refusals.{refusal, no_refusal}
 use Rattle.judge.specs.Flow.{judged}
 use Rattle.judge.specs.Plain.{RefusedFor, LongFlow, NoBytes, RaggedFlow, FaultAt, NoTail}
 use Rattle.judge.proofs.FirstFault.{judgement-number, refused-exactly}
-use Rattle.correct.specs.declared.Correction.{Correction}
-use Rattle.correct.specs.declared.Correction.TheVariants.{Made, Refused}
+use Rattle.correct.specs.Answers.{Correction, Made, Refused}
 use Rattle.correct.specs.Correction.{refusal_made, section_of, correction_of}
 use Rattle.correct.specs.WhenRefused.{HasLine, Large, Negative, Overflows, new_records, Tried22, Tried9, Tried14, Tried23, MayBeMade, Answers, AsFlow, NoLine, TooLarge, WrongLine, TurnsNegative, HasNoRoom, IsMade}
 use Rattle.correct.proofs.Answered.{answered-exactly}
@@ -82,7 +83,7 @@ module _ (f : List ℕ) (d subtype n x y : ℕ) where
     where
       go : (v : Verdict) → (judged f).verdict ≡ v → refusal_made (correction_of f d subtype n x y) ≡ refusal_of (judged f).verdict
       go Judged.Accepted e = absurd (h e)
-      go (Judged.Refused m r p) e = ap refusal_made ((answered-exactly f d subtype n x y _).1 (AsFlow e)) ∙ sym (ap refusal_of e)
+      go (Err why) e = ap refusal_made ((answered-exactly f d subtype n x y _).1 (AsFlow e)) ∙ sym (ap refusal_of e)
 
   -- A correction is answered to be made exactly when none of its refusals holds.
   pub answered-made : (correction_of f d subtype n x y ≡ Made) ↔ MayBeMade f d subtype n x y

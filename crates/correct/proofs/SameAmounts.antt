@@ -14,7 +14,7 @@ use Rattle.rules.specs.declared.State.{State}
 use Rattle.rules.specs.State.{start_state}
 use Rattle.amounts.specs.Amounts.{line_right}
 use Rattle.rules.specs.Step.{next}
-use Rattle.judge.specs.declared.Verdict.TheVariants.{Accepted}
+use Rattle.judge.specs.Refusal.{Accepted}
 use Rattle.judge.specs.Flow.{records_of, head_name_of, judged}
 use Rattle.judge.specs.Plain.{Whole, state_after}
 use Rattle.rebalance.specs.Rebalance.{flat, Mendable, refreshed}
@@ -22,7 +22,7 @@ use Rattle.rebalance.proofs.Rebalanced.{mendable-fits}
 use Rattle.rebalance.proofs.Weighed.{mendable-positive}
 use Rattle.rebalance.proofs.Judged.{flat-records, accepted-untouched, accepted-mends}
 use Rattle.find.specs.Line.{line_of}
-use Rattle.correct.specs.declared.Correction.TheVariants.{Made}
+use Rattle.correct.specs.Answers.{Made}
 use Rattle.correct.specs.Correction.{section_of, correction_of, corrected_bytes}
 use Rattle.correct.specs.Effect.{with_amounts, debit_of, credit_of}
 use Rattle.correct.proofs.Amended.{amended, amended-own}

@@ -19,7 +19,7 @@ use Rattle.rules.specs.declared.State.{State}
 use Rattle.rules.specs.State.{start_state}
 use Rattle.order.specs.Order.{next_stage}
 use Rattle.rules.specs.Step.{next_deleghe, next}
-use Rattle.judge.specs.declared.Verdict.TheVariants.{Accepted}
+use Rattle.judge.specs.Refusal.{Accepted}
 use Rattle.judge.specs.Flow.{records_of, judged}
 use Rattle.judge.specs.Plain.{state_after}
 use Rattle.rebalance.specs.Rebalance.{Sized, flat}

@@ -1,4 +1,5 @@
 -- A corrected flow is accepted with the sums of its lines, of which there are as many, and so is every flow that a series of calls leaves.
+use Rattle.std.specs.Prelude.{Err}
 use Prim.Native.Nat.{ℕ, ◌+◌}
 use mathlib.Core.Path.{◌≡◌, refl, sym, ap, ◌∙◌}
 use mathlib.Core.Bool.{false≢true}
@@ -9,7 +10,7 @@ use Rattle.layout.specs.declared.Kind.TheVariants.{Line}
 use Rattle.layout.specs.Kinds.{of_line, kind_in}
 use Rattle.rules.specs.State.{start_state}
 use Rattle.order.specs.Order.{stands}
-use Rattle.judge.specs.declared.Verdict.TheVariants.{Accepted}
+use Rattle.judge.specs.Refusal.{Accepted}
 use Rattle.judge.specs.declared.Judgement.{Judgement}
 use Rattle.judge.specs.Flow.{accepted_with, records_of, head_name_of, judged}
 use Rattle.judge.specs.Plain.{sum_over, line_count_in, Whole, state_after}
@@ -20,8 +21,7 @@ use Rattle.rebalance.proofs.Emit.{kept-stands}
 use Rattle.rebalance.proofs.Flat.{name-in-front}
 use Rattle.rebalance.proofs.Judged.{flat-records, length-mended, whole_same, judged-rebalanced, accepted-mends}
 use Rattle.find.specs.Line.{line_of}
-use Rattle.correct.specs.declared.Correction.{Correction}
-use Rattle.correct.specs.declared.Correction.TheVariants.{Made, Refused}
+use Rattle.correct.specs.Answers.{Correction, Made, Refused}
 use Rattle.correct.specs.Correction.{section_of, correction_of, corrected_bytes}
 use Rattle.correct.specs.Effect.{with_amounts, Call, after}
 use Rattle.correct.proofs.Amended.{amended, kind-amended}
@@ -118,7 +118,7 @@ corrected-length f d subtype n x y = go (correction_of f d subtype n x y) refl
   where
     go : (c : Correction) → correction_of f d subtype n x y ≡ c → length (corrected_bytes f d subtype n x y) ≡ length f
     go Made e = ap length (made_bytes f d subtype n x y e) ∙ refreshed-length f d subtype n x y ((made-passed f d subtype n x y).0 e)
-    go (Refused _ _ _) e = ap length (refused-untouched f d subtype n x y e)
+    go (Err why) e = ap length (refused-untouched f d subtype n x y e)
 
 -- A corrected flow is accepted, with the sums of its lines.
 pub corrected-accepted : (f : List ℕ) (d subtype n x y : ℕ) → correction_of f d subtype n x y ≡ Made → judged (corrected_bytes f d subtype n x y) ≡ accepted_with (state_after start_state (records_of (with_amounts f d subtype n x y)))
@@ -134,7 +134,7 @@ one-stays-accepted f d subtype n x y a = go (correction_of f d subtype n x y) re
   where
     go : (c : Correction) → correction_of f d subtype n x y ≡ c → (judged (corrected_bytes f d subtype n x y)).verdict ≡ Accepted
     go Made e = ap (λ (j : Judgement). j.verdict) (corrected-accepted f d subtype n x y e)
-    go (Refused _ _ _) e = rw (refused-untouched f d subtype n x y e) a
+    go (Err why) e = rw (refused-untouched f d subtype n x y e) a
 
 -- Calls one after the other, refused ones among them, leave an accepted flow accepted.
 pub series-stays-accepted : (cs : List Call) (f : List ℕ) → (judged f).verdict ≡ Accepted → (judged (after cs f)).verdict ≡ Accepted

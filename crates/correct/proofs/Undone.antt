@@ -19,7 +19,7 @@ use Rattle.judge.specs.Plain.{Whole}
 use Rattle.rebalance.specs.Rebalance.{all_fit}
 use Rattle.rebalance.specs.Weigh.{any_negative}
 use Rattle.rebalance.proofs.Judged.{whole_same}
-use Rattle.correct.specs.declared.Correction.TheVariants.{Made, Refused}
+use Rattle.correct.specs.Answers.{Made, Refused}
 use Rattle.correct.specs.Correction.{replaced, outcome_of, weighed, tried}
 use Rattle.correct.specs.Writing.{amounts_put, Room, Fifteen}
 use Rattle.correct.proofs.Putting.{credit-in, length-credit, debit-in, length-amounts}

@@ -1,25 +1,25 @@
 -- Believed. Demand 3: the line's amounts replaced, and every total, sign, balance and tail sum worked out afresh from all the lines.
-use Rattle.std.specs.Prelude.{ℕ, ◌+◌, ◌-◌, ◌*◌, Bool, true, cond, List, ltb}
+use Rattle.std.specs.Prelude.{ℕ, ◌+◌, ◌-◌, ◌*◌, Bool, true, cond, List, ltb, Err}
 use Rattle.text.specs.Numbers.{digits_of}
 use Rattle.text.specs.Placing.{put_at}
 use Rattle.layout.specs.Sections.{section_at}
 use Rattle.layout.specs.Kinds.{of_line, section_kind}
 use Rattle.rules.specs.State.{start_state}
 use Rattle.amounts.specs.Amounts.{line_right}
-use Rattle.judge.specs.Refusal.{Refusal, refusal, no_refusal}
+use Rattle.refusal.specs.declared.Refusal.{Refusal}
+use Rattle.refusal.specs.Refusals.{refusal, no_refusal}
 use Rattle.judge.specs.Flow.{records_of}
 use Rattle.rebalance.specs.Rebalance.{all_fit, refreshed}
 use Rattle.rebalance.specs.Weigh.{any_negative}
-use Rattle.find.specs.declared.Found.{Found}
-use Rattle.find.specs.declared.Found.TheVariants as Answer
+use Rattle.find.specs.Answers.{Found}
+use Rattle.find.specs.Answers as Answer
 use Rattle.find.specs.Line.{found_in}
-use Rattle.correct.specs.declared.Correction.{Correction}
-use Rattle.correct.specs.declared.Correction.TheVariants.{Made, Refused}
+use Rattle.correct.specs.Answers.{Correction, Made, Refused}
 
 -- the refusal of an answer; a correction that is made has none
 abbrev pub refusal_made : Correction → Refusal
 refusal_made Made = no_refusal
-refusal_made (Refused n r p) = refusal n r p
+refusal_made (Err why) = refusal why.number why.«record» why.position
 
 -- the section whose lines have a subtype; past the table where there is none
 abbrev pub section_of : ℕ → ℕ
@@ -51,7 +51,7 @@ tried k s debit credit f =
 -- "Every call on a flow judges it first"; "A correction then tries 21, 22, 9, 14, 23 in this order"
 abbrev pub after_found : Found → ℕ → ℕ → ℕ → List ℕ → Correction
 after_found (Answer.At k) s debit credit f = tried k s debit credit f
-after_found (Answer.Refused n r p) s debit credit f = Refused n r p
+after_found (Err why) s debit credit f = Refused why.number why.«record» why.position
 
 -- the answer to a correction
 unfoldable pub correction_of : List ℕ → ℕ → ℕ → ℕ → ℕ → ℕ → Correction
@@ -60,11 +60,11 @@ correction_of f d subtype n debit credit = after_found (found_in f d subtype n) 
 -- the bytes after it: "Every refusal leaves lent memory as it came"
 abbrev pub bytes_after : Correction → List ℕ → List ℕ → List ℕ
 bytes_after Made new old = new
-bytes_after (Refused n r p) new old = old
+bytes_after (Err why) new old = old
 
 abbrev pub record_found : Found → ℕ
 record_found (Answer.At k) = k
-record_found (Answer.Refused n r p) = 0
+record_found (Err why) = 0
 
 unfoldable pub corrected_bytes : List ℕ → ℕ → ℕ → ℕ → ℕ → ℕ → List ℕ
 corrected_bytes f d subtype n debit credit =

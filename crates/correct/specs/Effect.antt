@@ -4,8 +4,7 @@ use Rattle.layout.specs.Sections.{section_at}
 use Rattle.layout.specs.Fields.{amount_at, value_of}
 use Rattle.judge.specs.Flow.{records_of}
 use Rattle.find.specs.Line.{line_of}
-use Rattle.correct.specs.declared.Correction.{Correction}
-use Rattle.correct.specs.declared.Correction.TheVariants.{Made}
+use Rattle.correct.specs.Answers.{Correction, Made}
 use Rattle.correct.specs.Correction.{section_of, replaced, correction_of, corrected_bytes}
 
 -- The flow with the amounts of the line that is named replaced.

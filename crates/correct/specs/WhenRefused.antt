@@ -3,13 +3,12 @@
 use Rattle.std.specs.Prelude.{ℕ, ◌-◌, ◌<◌, ◌≡◌, true, false, List, ◌⊎◌}
 use Rattle.layout.specs.Sections.{section_at}
 use Rattle.amounts.specs.Amounts.{apart, line_right}
-use Rattle.judge.specs.declared.Verdict.TheVariants as Judged
+use Rattle.judge.specs.Refusal as Judged
 use Rattle.judge.specs.Flow.{records_of, judged}
 use Rattle.judge.specs.Plain.{Debit, Credit, lines_in}
 use Rattle.delega.specs.PlainDelega as Delega
 use Rattle.find.specs.NamedLine.{NthLine}
-use Rattle.correct.specs.declared.Correction.{Correction}
-use Rattle.correct.specs.declared.Correction.TheVariants.{Made, Refused}
+use Rattle.correct.specs.Answers.{Correction, Made, Refused}
 use Rattle.correct.specs.Correction.{section_of}
 use Rattle.correct.specs.Effect.{with_amounts}
 

@@ -1,4 +1,5 @@
 -- The four ways in which a call for one delega is answered, and that its promise settles the answer.
+use Rattle.std.specs.Prelude.{Err}
 use Prim.Native.Nat.{ℕ, ◌<◌, ◌≤◌}
 use mathlib.Core.Path.{◌≡◌, refl, sym, ◌∙◌}
 use mathlib.Core.Bool.{Bool, true, false, cond, false≢true}
@@ -12,9 +13,7 @@ use Rattle.layout.specs.Kinds.{kind_in}
 use Rattle.rules.specs.declared.State.{State}
 use Rattle.rules.specs.State.{start_state}
 use Rattle.rules.specs.Step.{next}
-use Rattle.judge.specs.declared.Verdict.{Verdict}
-use Rattle.judge.specs.declared.Verdict.TheVariants.{Accepted, Refused}
-use Rattle.judge.specs.Refusal.{judged_first}
+use Rattle.judge.specs.Refusal.{Verdict, Accepted, Refused, judged_first}
 use Rattle.judge.specs.Flow.{records_of, judged}
 use Rattle.judge.proofs.FirstFault.{judgement-number}
 use Rattle.delega.specs.declared.used.Used.{Used}
@@ -83,7 +82,7 @@ delega-number s d {n} {r} {p} e = by-verdict (judged s).verdict refl e
     by-verdict : (v : Verdict) → (judged s).verdict ≡ v →
         (judged_first refused_as v (cond (eqb d 0) no_such_delega (cond (ltb (judged s).summary.deleghe d) no_such_delega (delega_from d start_state none_used (records_of s))))).verdict ≡ Refused n r p → 1 ≤ n
     by-verdict Accepted h q = by_tests (eqb d 0) (ltb (judged s).summary.deleghe d) q
-    by-verdict (Refused x y z) h q = let w : x ≡ n = cc in omega (arith, (judgement-number s h).0)
+    by-verdict (Err why) h q = let w : why.number ≡ n = cc in omega (arith, (judgement-number s h).0)
 
 -- "any two answers allowed by it are equal"
 pub one-delega : (s : List ℕ) (d : ℕ) (a b : DelegaAnswer) → a ≡ delega_of s d → b ≡ delega_of s d → a ≡ b

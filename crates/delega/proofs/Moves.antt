@@ -13,7 +13,7 @@ use Rattle.layout.specs.Kinds.{of_line, of_payment, kind_in}
 use Rattle.layout.specs.Fields.{delega_number, value_of}
 use Rattle.amounts.specs.declared.Sums.{Sums}
 use Rattle.rules.specs.declared.DelegaSums.{DelegaSums}
-use Rattle.amounts.specs.declared.Outcome.TheVariants.{Pass}
+use Rattle.refusal.specs.Outcomes.{Pass}
 use Rattle.rules.specs.declared.State.{State}
 use Rattle.rules.specs.State.{zero_delega, start_state}
 use Rattle.order.specs.Stages.{at_start, after_head, after_taxpayer, after_domicile, after_line, after_balance, after_payment, after_receipt, after_addressee}

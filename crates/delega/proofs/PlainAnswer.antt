@@ -11,13 +11,13 @@ use Rattle.layout.specs.Kinds.{of_line, of_payment, kind_in}
 use Rattle.layout.specs.Fields.{final_balance, value_of}
 use Rattle.amounts.specs.declared.Sums.{Sums}
 use Rattle.rules.specs.declared.DelegaSums.{DelegaSums}
-use Rattle.amounts.specs.declared.Outcome.TheVariants.{Pass}
+use Rattle.refusal.specs.Outcomes.{Pass}
 use Rattle.rules.specs.declared.State.{State}
 use Rattle.rules.specs.State.{no_sums, zero_delega, start_state}
 use Rattle.amounts.specs.Amounts.{final_of}
 use Rattle.rules.specs.Checks.{negative_fault, fault}
 use Rattle.rules.specs.Step.{next}
-use Rattle.judge.specs.declared.Verdict.TheVariants.{Accepted}
+use Rattle.judge.specs.Refusal.{Accepted}
 use Rattle.judge.specs.declared.Judgement.{Judgement}
 use Rattle.judge.specs.Flow.{records_of, head_name_of, judged}
 use Rattle.judge.specs.Plain.{sum_over, Side, Debit, Credit, side_of, column_of, state_after, NoFault}

@@ -3,7 +3,7 @@ use mathlib.Core.List.{List, [], ◌∷◌}
 use Rattle.amounts.specs.declared.Sums.{Sums}
 use Rattle.rules.specs.State.{no_sums}
 use Rattle.judge.specs.declared.Judgement.{Judgement}
-use Rattle.judge.specs.declared.Verdict.TheVariants.{Accepted}
+use Rattle.judge.specs.Refusal.{Accepted}
 use Rattle.delega.specs.declared.DelegaAnswer.{DelegaAnswer}
 
 -- "05 10000 2500", and zeros in the four other sections

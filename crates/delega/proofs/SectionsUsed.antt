@@ -10,10 +10,10 @@ use native.Mathlib.Nat.{zero-div}
 use borrow.Author.Tests.{lt-ltb}
 use lib.Dec.{eqb, lit<}
 use Rattle.layout.specs.Kinds.{of_line, kind_in}
-use Rattle.amounts.specs.declared.Outcome.TheVariants.{Pass}
+use Rattle.refusal.specs.Outcomes.{Pass}
 use Rattle.rules.specs.State.{start_state}
 use Rattle.rules.specs.Checks.{fault}
-use Rattle.judge.specs.declared.Verdict.TheVariants.{Accepted}
+use Rattle.judge.specs.Refusal.{Accepted}
 use Rattle.judge.specs.Flow.{records_of, head_name_of, judged}
 use Rattle.judge.specs.Plain.{sum_over}
 use Rattle.judge.proofs.Accepted.{accepted-means-no-fault}

@@ -17,7 +17,7 @@ use Rattle.layout.specs.declared.Kind.TheVariants.{Head, Taxpayer, Domicile, Lin
 use Rattle.layout.specs.Kinds.{of_line, of_balance, of_payment, kind_in}
 use Rattle.layout.specs.Fields.{delega_number, value_of}
 use Rattle.layout.proofs.InTable.{section_of, section-within}
-use Rattle.amounts.specs.declared.Outcome.TheVariants.{Pass}
+use Rattle.refusal.specs.Outcomes.{Pass}
 use Rattle.order.specs.declared.Stage.{Stage}
 use Rattle.order.specs.Stages.{stage_at, at_start, after_head, after_taxpayer, after_domicile, after_line, after_balance, after_payment, after_receipt, after_addressee}
 use Rattle.order.specs.Order.{stands, next_stage}

@@ -5,9 +5,9 @@ use mathlib.Core.List.{List}
 use mathlib.Core.Logic.{◌⊎◌, inl, inr, ◌↔◌}
 use native.Mathlib.Omega.{arith}
 use native.Mathlib.Decide.{dec_lt, ℕ_discrete}
-use Rattle.judge.specs.declared.Verdict.{Verdict}
-use Rattle.judge.specs.declared.Verdict.TheVariants.{Accepted, Refused}
-use Rattle.judge.specs.Refusal.{Refusal, refusal, no_refusal, refusal_of}
+use Rattle.judge.specs.Refusal.{Verdict, Accepted, Refused, refusal_of}
+use Rattle.refusal.specs.declared.Refusal.{Refusal}
+use Rattle.refusal.specs.Refusals.{refusal, no_refusal}
 use Rattle.judge.specs.Flow.{judged}
 use Rattle.judge.proofs.FirstFault.{judgement-number}
 use Rattle.delega.specs.declared.DelegaAnswer.{DelegaAnswer}

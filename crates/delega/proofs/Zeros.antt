@@ -1,4 +1,5 @@
 -- Beside a refusal stand zeros.
+use Rattle.std.specs.Prelude.{Err}
 use Prim.Native.Nat.{ℕ}
 use mathlib.Core.Path.{◌≡◌, ap}
 use mathlib.Core.List.{List, [], ◌∷◌}
@@ -9,9 +10,7 @@ use Rattle.layout.specs.Kinds.{kind_in}
 use Rattle.rules.specs.declared.State.{State}
 use Rattle.rules.specs.State.{start_state}
 use Rattle.rules.specs.Step.{next}
-use Rattle.judge.specs.declared.Verdict.{Verdict}
-use Rattle.judge.specs.declared.Verdict.TheVariants.{Accepted, Refused}
-use Rattle.judge.specs.Refusal.{judged_first}
+use Rattle.judge.specs.Refusal.{Verdict, Accepted, Refused, judged_first}
 use Rattle.judge.specs.Flow.{records_of, judged}
 use Rattle.delega.specs.declared.used.Used.{Used}
 use Rattle.delega.specs.declared.DelegaAnswer.{DelegaAnswer}
@@ -34,7 +33,7 @@ from-zeroed d st u (x ∷ rs) =
 
 first-zeroed : (v : Verdict) (a : DelegaAnswer) → Zeroed a → Zeroed (judged_first refused_as v a)
 first-zeroed Accepted a f = f
-first-zeroed (Refused n r p) a f = refused-zeroed n r p
+first-zeroed (Err why) a f = refused-zeroed why.number why.«record» why.position
 
 pub refused-zeros : (s : List ℕ) (d n r p : ℕ) → (delega_of s d).verdict ≡ Refused n r p → delega_of s d ≡ zeros_beside (Refused n r p)
 unfolding delega_of

@@ -6,8 +6,7 @@ use Rattle.rules.specs.declared.State.{State}
 use Rattle.rules.specs.State.{zero_sections, start_state}
 use Rattle.amounts.specs.Amounts.{final_of}
 use Rattle.rules.specs.Step.{next}
-use Rattle.judge.specs.declared.Verdict.TheVariants.{Accepted, Refused}
-use Rattle.judge.specs.Refusal.{judged_first}
+use Rattle.judge.specs.Refusal.{Accepted, Refused, judged_first}
 use Rattle.judge.specs.Flow.{records_of, judged}
 use Rattle.delega.specs.declared.used.Used.{Used}
 use Rattle.delega.specs.declared.DelegaAnswer.{DelegaAnswer}

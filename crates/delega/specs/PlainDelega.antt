@@ -2,7 +2,7 @@
 use Rattle.std.specs.Prelude.{ℕ, ◌+◌, ◌*◌, ◌/◌, ◌%◌, ◌^◌, cond, List, eqb, ltb, replicate}
 use Rattle.layout.specs.Kinds.{of_line, of_balance, of_payment, kind_in}
 use Rattle.layout.specs.Fields.{delega_number, final_balance, value_of}
-use Rattle.judge.specs.declared.Verdict.{Verdict}
+use Rattle.judge.specs.Refusal.{Verdict}
 use Rattle.judge.specs.Plain.{sum_over, Side, column_of}
 use Rattle.delega.specs.declared.DelegaAnswer.{DelegaAnswer}
 

@@ -1,10 +1,9 @@
 -- Serves inner functions. What the header of a run case says: how long its flow is, and the numbers of its call; and the numbers in a text of a run case.
 use Rattle.std.specs.Prelude.{ℕ, zero, suc, ◌-◌, ◌*◌, ◌/◌, cond, List, [], ◌∷◌, ◌++◌, ltb, length, take, drop}
-use Rattle.text.specs.declared.Digits.{Digits}
-use Rattle.text.specs.declared.Digits.TheVariants as Read
+use Rattle.text.specs.Answers.{Digits}
+use Rattle.text.specs.Answers as Read
 use Rattle.text.specs.Numbers.{read_number}
-use Rattle.args.specs.declared.Argument.{Argument}
-use Rattle.args.specs.declared.Argument.TheVariants.{Number, NoNumber}
+use Rattle.args.specs.Answers.{Argument, Number, NoNumber}
 use Rattle.args.specs.Decimal.{decimal_of}
 use Rattle.desk.specs.declared.Numbers.{Numbers}
 

@@ -1,4 +1,5 @@
 -- What is answered to a flow and a list, and exactly when.
+use Rattle.std.specs.Prelude.{Err}
 use Prim.Native.Nat.{ℕ, zero, suc, ◌+◌, ◌≤◌}
 use mathlib.Core.Path.{◌≡◌, refl, sym, ap, ◌∙◌}
 use mathlib.Core.Bool.{Bool, true, false, cond, false≢true}
@@ -12,15 +13,12 @@ use lib.ListN.{length}
 use Rattle.text.specs.Among.{among}
 use Rattle.text.proofs.Tests.{untrue}
 use Rattle.text.proofs.Bytes.{within}
-use Rattle.judge.specs.declared.Verdict.{Verdict}
-use Rattle.judge.specs.declared.Verdict.TheVariants as Judge
-use Rattle.judge.specs.declared.Verdict.TheVariants.{Accepted}
-use Rattle.judge.specs.Refusal.{judged_first}
+use Rattle.judge.specs.Refusal.{Verdict, Accepted, judged_first}
+use Rattle.judge.specs.Refusal as Judge
 use Rattle.judge.specs.Flow.{judged}
 use Rattle.close.specs.Closing.{each_once, left_of}
 use Rattle.close.proofs.Counted.{once-parts, left-counted}
-use Rattle.dropping.specs.declared.Dropping.{Dropping}
-use Rattle.dropping.specs.declared.Dropping.TheVariants.{Dropped, Refused}
+use Rattle.dropping.specs.Answers.{Dropping, Dropped, Refused}
 use Rattle.dropping.specs.Dropping.{shortened, weighed, dropping_of}
 use Rattle.dropping.specs.Inner.{Droppable}
 use Rattle.dropping.specs.WhenRefused.{Names, here, behind, BadNumber, absent, twice, later, GoodList, Unnamed, Answers, NotAccepted, BadList, NoneLeft, AreDropped}
@@ -129,7 +127,7 @@ module _ (f numbers : List ℕ) where
     where
       go : (v : Verdict) → (judged f).verdict ≡ v → Answers f numbers (judged_first Refused v (weighed deleghe f numbers))
       go Accepted a = reason a (each_once deleghe numbers) (eqb (left_of numbers deleghe) 0) refl refl
-      go (Judge.Refused n r p) a = NotAccepted a
+      go (Err why) a = NotAccepted a
 
   -- Where a delega is not named, some are left.
   some_left : Unnamed f numbers → eqb (left_of numbers (judged f).summary.deleghe) 0 ≡ false

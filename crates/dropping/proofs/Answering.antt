@@ -8,16 +8,15 @@ use borrow.Author.Tests.{eq-eqb, ne_eqb}
 use lib.Dec.{eqb}
 use lib.ListN.{length, take, drop, replicate}
 use Rattle.rules.specs.State.{start_state}
-use Rattle.judge.specs.declared.Verdict.TheVariants as Judge
-use Rattle.judge.specs.declared.Verdict.TheVariants.{Accepted}
+use Rattle.judge.specs.Refusal as Judge
+use Rattle.judge.specs.Refusal.{Accepted}
 use Rattle.judge.specs.Flow.{records_of, judged}
 use Rattle.judge.specs.Plain.{Whole}
 use Rattle.rebalance.specs.Rebalance.{rebalanced, all_fit, flat, refreshed}
 use Rattle.close.specs.Closing.{closed_up, spaced, each_once, left_of}
 use Rattle.close.proofs.Counted.{left-counted}
 use Rattle.close.proofs.Spaces.{spaced-front, spaced-behind}
-use Rattle.dropping.specs.declared.Dropping.{Dropping}
-use Rattle.dropping.specs.declared.Dropping.TheVariants.{Dropped, Refused}
+use Rattle.dropping.specs.Answers.{Dropping, Dropped, Refused}
 use Rattle.dropping.specs.Dropping.{shortened, weighed, dropping_of, flow_by, dropped_flow}
 use Rattle.dropping.specs.Inner.{Judged, Droppable}
 use Rattle.dropping.proofs.Shortened.{closed-whole, closed-fits, shortened-length}

@@ -11,7 +11,7 @@ use Rattle.judge.specs.Flow.{records_of, judged}
 use Rattle.judge.specs.Plain.{Side, side_of}
 use Rattle.delega.specs.OneDelega.{delega_of}
 use Rattle.close.specs.Closing.{kept_of, left_of}
-use Rattle.dropping.specs.declared.Dropping.TheVariants.{Dropped}
+use Rattle.dropping.specs.Answers.{Dropped}
 use Rattle.dropping.specs.Dropping.{dropping_of, dropped_flow}
 use Rattle.dropping.specs.Inner.{Droppable}
 use Rattle.dropping.specs.Effect.{EachStayed, records_with, sum_for, record_count_of}

@@ -1,4 +1,5 @@
 -- A flow from which deleghe are dropped: what stands in the lent room, and that it is accepted; a refusal changes nothing; lists of more numbers than deleghe.
+use Rattle.std.specs.Prelude.{Err}
 use Prim.Native.Nat.{ℕ, ◌-◌, ◌/◌, ◌<◌, ◌≤◌}
 use mathlib.Core.Path.{◌≡◌, refl, sym, ap, ◌∙◌}
 use mathlib.Core.List.{List, [], ◌∷◌}
@@ -8,9 +9,8 @@ use lib.ListN.{length, take, drop, replicate, length-append, length-replicate}
 use Rattle.layout.specs.declared.RecordType.{RecordType}
 use Rattle.layout.specs.declared.RecordType.TheVariants.{F4, T10, T20, T40, T50, EF, NoType}
 use Rattle.layout.specs.Kinds.{type_in}
-use Rattle.judge.specs.declared.Verdict.{Verdict}
-use Rattle.judge.specs.declared.Verdict.TheVariants as Judge
-use Rattle.judge.specs.declared.Verdict.TheVariants.{Accepted}
+use Rattle.judge.specs.Refusal.{Verdict, Accepted}
+use Rattle.judge.specs.Refusal as Judge
 use Rattle.judge.specs.Flow.{records_of, judged}
 use Rattle.judge.specs.Plain.{sum_over, opens, tens_in}
 use Rattle.judge.proofs.Records.{length-chunks}
@@ -19,8 +19,7 @@ use Rattle.judge.proofs.Counts.{accepted-deleghe}
 use Rattle.close.specs.Closing.{spaced}
 use Rattle.close.proofs.Counted.{too_many}
 use Rattle.close.proofs.Spaces.{spaced-front, spaced-behind}
-use Rattle.dropping.specs.declared.Dropping.{Dropping}
-use Rattle.dropping.specs.declared.Dropping.TheVariants.{Dropped, Refused}
+use Rattle.dropping.specs.Answers.{Dropping, Dropped, Refused}
 use Rattle.dropping.specs.Dropping.{shortened, weighed, dropping_of, dropped_flow}
 use Rattle.dropping.specs.Inner.{Droppable}
 use Rattle.dropping.proofs.Shortened.{closed-short, shortened-length, shortened-accepted}
@@ -86,7 +85,7 @@ cut_list f numbers h = go (judged f).verdict refl
   where
     go : (v : Verdict) → (judged f).verdict ≡ v → dropping_of f numbers ≡ dropping_of f (take 547 numbers)
     go Accepted a = let k = few-deleghe f a in long-list f numbers a (omega arith) ∙ sym (long-list f (take 547 numbers) a (omega (arith, length-take-le 547 numbers h)))
-    go (Judge.Refused n r p) a = rw a
+    go (Err why) a = rw a
 
 -- The length answered lies within the flow that is handed back.
 pub dropped-within : (f numbers left : List ℕ) (n : ℕ) (a : Dropping) → a ≡ dropping_of f numbers → left ≡ dropped_flow f numbers → a ≡ Dropped n → n ≤ length left

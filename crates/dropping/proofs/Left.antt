@@ -17,7 +17,7 @@ use Rattle.layout.specs.declared.Kind.{Kind}
 use Rattle.layout.specs.declared.Kind.TheVariants.{Head, Taxpayer, Tail}
 use Rattle.layout.specs.Kinds.{type_in, kind_in, numbered}
 use Rattle.layout.specs.Fields.{delega_number, tail_deleghe, tail_sum, tail_records, fields_of, bytes_of, value_of}
-use Rattle.amounts.specs.declared.Outcome.TheVariants.{Pass}
+use Rattle.refusal.specs.Outcomes.{Pass}
 use Rattle.amounts.proofs.Outcomes.{five-pass}
 use Rattle.order.specs.declared.Stage.{Stage}
 use Rattle.order.specs.Stages.{at_start, after_tail}

@@ -6,7 +6,7 @@ use mathlib.Core.List.{List}
 use native.Mathlib.Omega.{arith}
 use lib.Dec.{lit<}
 use lib.ListN.{length}
-use Rattle.text.specs.declared.Characters.TheVariants.{Allowed}
+use Rattle.text.specs.Answers.{Allowed}
 use Rattle.text.specs.Characters.{first_bad}
 use Rattle.text.specs.Numbers.{number_of, digits_of}
 use Rattle.text.specs.Placing.{put_at}
@@ -15,7 +15,7 @@ use Rattle.text.proofs.Numerals.{number_digits, length_digits}
 use Rattle.text.proofs.Puts.{put-after, put-byte-before, put-allowed}
 use Rattle.layout.specs.declared.Kind.{Kind}
 use Rattle.layout.specs.Kinds.{type_in, kind_in, numbered}
-use Rattle.amounts.specs.declared.Outcome.TheVariants.{Pass}
+use Rattle.refusal.specs.Outcomes.{Pass}
 use Rattle.amounts.proofs.Outcomes.{first-pass}
 use Rattle.order.specs.Order.{standing}
 use Rattle.rules.specs.declared.State.{State}

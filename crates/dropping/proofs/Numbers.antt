@@ -9,7 +9,7 @@ use Rattle.text.specs.Among.{among}
 use Rattle.layout.specs.declared.Kind.{Kind}
 use Rattle.layout.specs.Kinds.{type_in, kind_in, numbered}
 use Rattle.layout.specs.Fields.{delega_number, value_of}
-use Rattle.amounts.specs.declared.Outcome.TheVariants.{Pass}
+use Rattle.refusal.specs.Outcomes.{Pass}
 use Rattle.rules.specs.declared.State.{State}
 use Rattle.rules.specs.State.{start_state}
 use Rattle.rules.specs.Checks.{fault}

@@ -2,7 +2,7 @@
 use mathlib.Core.Path.{◌≡◌, sym, ◌∙◌}
 use mathlib.Core.List.{List}
 use Prim.Native.Nat.{ℕ}
-use Rattle.dropping.specs.declared.Dropping.{Dropping}
+use Rattle.dropping.specs.Answers.{Dropping}
 use Rattle.dropping.specs.Dropping.{dropping_of, dropped_flow}
 
 -- "any two answers allowed by it are equal"

@@ -15,7 +15,7 @@ use Rattle.judge.specs.Flow.{records_of, judged}
 use Rattle.rebalance.specs.Rebalance.{rebalanced, flat, refreshed}
 use Rattle.close.specs.Closing.{stays, kept_of, left_of}
 use Rattle.close.proofs.Counted.{once-parts, left-counted}
-use Rattle.dropping.specs.declared.Dropping.TheVariants.{Dropped}
+use Rattle.dropping.specs.Answers.{Dropped}
 use Rattle.dropping.specs.Dropping.{shortened, dropping_of, dropped_flow}
 use Rattle.dropping.specs.Inner.{Droppable}
 use Rattle.dropping.specs.Effect.{Stayed, EachStayed, moved, OneByOne, Ended, Next}

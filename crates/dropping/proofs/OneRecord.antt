@@ -8,7 +8,7 @@ use Rattle.layout.specs.declared.Kind.{Kind}
 use Rattle.layout.specs.declared.Kind.TheVariants.{Head, Taxpayer, Domicile, Line, Balance, Payment, Receipt, Addressee, Tail, Unknown}
 use Rattle.layout.specs.Kinds.{kind_in, numbered}
 use Rattle.layout.specs.Fields.{delega_number, value_of}
-use Rattle.amounts.specs.declared.Outcome.TheVariants.{Pass}
+use Rattle.refusal.specs.Outcomes.{Pass}
 use Rattle.order.specs.declared.Stage.{Stage}
 use Rattle.order.specs.Stages.{after_tail}
 use Rattle.order.specs.Order.{stands}

@@ -7,8 +7,7 @@ use native.Mathlib.Omega.{arith}
 use lib.Dec.{lit≤}
 use lib.ListN.{take, drop, get_or}
 use lib.Seq.{get_or-drop, drop-drop}
-use Rattle.text.specs.declared.Characters.TheVariants.{Allowed}
-use Rattle.text.specs.declared.Digits.TheVariants.{Number}
+use Rattle.text.specs.Answers.{Allowed, Number}
 use Rattle.text.specs.Characters.{first_bad}
 use Rattle.text.specs.Numbers.{number_of, amount_of}
 use Rattle.layout.specs.declared.Field.{Field}
@@ -21,8 +20,7 @@ use Rattle.layout.proofs.InTable.{section_of, section-within}
 use Rattle.layout.proofs.InOrder.{InOrder, fields-in-order}
 use Rattle.layout.proofs.Amounts.{behind, number-first}
 use Rattle.layout.proofs.Table.{row-rule}
-use Rattle.amounts.specs.declared.Outcome.{Outcome}
-use Rattle.amounts.specs.declared.Outcome.TheVariants.{Pass}
+use Rattle.refusal.specs.Outcomes.{Outcome, Pass}
 use Rattle.amounts.specs.Amounts.{line_fault}
 use Rattle.amounts.proofs.Outcomes.{first-pass, five-pass}
 use Rattle.order.specs.Order.{standing}

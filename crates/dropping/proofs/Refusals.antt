@@ -4,7 +4,7 @@ use mathlib.Core.Path.{◌≡◌}
 use mathlib.Core.List.{List}
 use native.Mathlib.Omega.{arith}
 use Rattle.judge.proofs.FirstFault.{judgement-number}
-use Rattle.dropping.specs.declared.Dropping.TheVariants.{Refused}
+use Rattle.dropping.specs.Answers.{Refused}
 use Rattle.dropping.specs.Dropping.{dropping_of}
 use Rattle.dropping.specs.WhenRefused.{Answers, NotAccepted, BadList, NoneLeft}
 use Rattle.dropping.proofs.Answered.{answered-exactly}

@@ -11,7 +11,7 @@ use Rattle.layout.specs.declared.Kind.TheVariants.{Head}
 use Rattle.layout.specs.Kinds.{kind_in, numbered}
 use Rattle.rules.specs.State.{start_state}
 use Rattle.rules.specs.Step.{next_deleghe}
-use Rattle.judge.specs.declared.Verdict.TheVariants.{Accepted}
+use Rattle.judge.specs.Refusal.{Accepted}
 use Rattle.judge.specs.declared.Judgement.{Judgement}
 use Rattle.judge.specs.Flow.{accepted_with, records_of, head_name_of, judged}
 use Rattle.judge.specs.Plain.{state_after, NoFault, Whole, Sound}

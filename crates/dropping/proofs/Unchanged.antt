@@ -18,7 +18,7 @@ use Rattle.order.specs.Order.{stands, next_stage}
 use Rattle.rules.specs.declared.State.{State}
 use Rattle.rules.specs.State.{start_state}
 use Rattle.rules.specs.Step.{next_deleghe, next}
-use Rattle.judge.specs.declared.Verdict.TheVariants.{Accepted}
+use Rattle.judge.specs.Refusal.{Accepted}
 use Rattle.judge.specs.declared.Judgement.{Judgement}
 use Rattle.judge.specs.Flow.{records_of, head_name_of, judged}
 use Rattle.judge.specs.Plain.{state_after, NoFault}
@@ -29,7 +29,7 @@ use Rattle.rebalance.proofs.Numbered.{number_same, number-held}
 use Rattle.rebalance.proofs.Judged.{sized-records, flat-records, accepted-untouched}
 use Rattle.close.specs.Closing.{stays, kept_of, renumbered, closed_up, each_once, left_of}
 use Rattle.close.proofs.Counted.{left-all}
-use Rattle.dropping.specs.declared.Dropping.TheVariants.{Dropped}
+use Rattle.dropping.specs.Answers.{Dropped}
 use Rattle.dropping.specs.Dropping.{shortened, weighed, dropping_of, dropped_flow}
 use Rattle.dropping.proofs.Dropped.{dropped-room}
 use Rattle.dropping.proofs.OneRecord.{next-deleghe}

@@ -14,7 +14,7 @@ use Rattle.layout.specs.Fields.{delega_number, value_of}
 use Rattle.judge.specs.Flow.{records_of}
 use Rattle.close.specs.Closing.{stays, kept_of, each_once, left_of}
 use Rattle.close.proofs.Counted.{once-parts, left-before, left_less, left-all}
-use Rattle.dropping.specs.declared.Dropping.TheVariants.{Dropped}
+use Rattle.dropping.specs.Answers.{Dropped}
 use Rattle.dropping.specs.Dropping.{dropping_of, dropped_flow}
 use Rattle.dropping.specs.Effect.{Stayed, EachStayed}
 use Rattle.dropping.specs.WhatIsLeft.{before, Left, Ends, Goes, Stays}

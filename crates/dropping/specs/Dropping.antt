@@ -1,16 +1,17 @@
 -- Believed. Ask 8 of document 02: deleghe are dropped from an accepted flow; the refusals in their order; the flow afterwards.
-use Rattle.std.specs.Prelude.{ℕ, cond, List, eqb, length}
-use Rattle.judge.specs.Refusal.{Refusal, refusal, no_refusal, judged_first}
+use Rattle.std.specs.Prelude.{ℕ, cond, List, eqb, length, Err}
+use Rattle.refusal.specs.declared.Refusal.{Refusal}
+use Rattle.refusal.specs.Refusals.{refusal, no_refusal}
+use Rattle.judge.specs.Refusal.{judged_first}
 use Rattle.judge.specs.Flow.{judged}
 use Rattle.rebalance.specs.Rebalance.{refreshed}
 use Rattle.close.specs.Closing.{closed_up, spaced, each_once, left_of}
-use Rattle.dropping.specs.declared.Dropping.{Dropping}
-use Rattle.dropping.specs.declared.Dropping.TheVariants.{Dropped, Refused}
+use Rattle.dropping.specs.Answers.{Dropping, Dropped, Refused}
 
 -- "A refusal is a number, a record counted from 1, and a position": that of an answer; a flow that is shortened has none
 abbrev pub refusal_dropped : Dropping → Refusal
 refusal_dropped (Dropped n) = no_refusal
-refusal_dropped (Refused n r p) = refusal n r p
+refusal_dropped (Err why) = refusal why.number why.«record» why.position
 
 -- "close the flow up over them, renumber the rest from 1, and set the tail": the flow that is left
 unfoldable pub shortened : List ℕ → List ℕ → List ℕ
@@ -28,7 +29,7 @@ dropping_of f numbers = judged_first Refused (judged f).verdict (weighed (judged
 -- the flow that is left, with spaces behind it; or, "with nothing written", as it came
 abbrev pub flow_by : Dropping → List ℕ → List ℕ → List ℕ
 flow_by (Dropped n) new old = new
-flow_by (Refused n r p) new old = old
+flow_by (Err why) new old = old
 
 -- "The room set free at the end of the lent buffer is filled with spaces": the lent flow afterwards
 unfoldable pub dropped_flow : List ℕ → List ℕ → List ℕ

@@ -8,7 +8,7 @@ use Rattle.layout.specs.Fields.{delega_number, tail_deleghe, tail_sum, tail_reco
 use Rattle.judge.specs.Plain.{sum_over}
 use Rattle.delega.specs.PlainDelega.{of_delega}
 use Rattle.close.specs.Closing.{left_of}
-use Rattle.dropping.specs.declared.Dropping.TheVariants.{Dropped}
+use Rattle.dropping.specs.Answers.{Dropped}
 use Rattle.dropping.specs.Dropping.{dropping_of, dropped_flow}
 
 -- "Kept deleghe differ only in their number", and the tail in its counts and its sum: the columns in which a record of a kind may differ.

@@ -1,6 +1,6 @@
 -- Serves inner functions. A flow that was judged, and one from which a list of deleghe may be dropped.
 use Rattle.std.specs.Prelude.{ℕ, ◌≡◌, true, false, List, eqb}
-use Rattle.judge.specs.declared.Verdict.TheVariants.{Accepted}
+use Rattle.judge.specs.Refusal.{Accepted}
 use Rattle.judge.specs.Flow.{judged}
 use Rattle.close.specs.Closing.{each_once, left_of}
 

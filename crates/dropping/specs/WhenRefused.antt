@@ -1,10 +1,9 @@
 -- For theorems. When a list of numbers is refused, with which number, and when the deleghe that it names are dropped.
 use Rattle.std.specs.Prelude.{ℕ, ◌<◌, ◌≤◌, ◌≡◌, List, ◌∷◌, ◌⊎◌, length}
-use Rattle.judge.specs.declared.Verdict.TheVariants as Judge
-use Rattle.judge.specs.declared.Verdict.TheVariants.{Accepted}
+use Rattle.judge.specs.Refusal as Judge
+use Rattle.judge.specs.Refusal.{Accepted}
 use Rattle.judge.specs.Flow.{judged}
-use Rattle.dropping.specs.declared.Dropping.{Dropping}
-use Rattle.dropping.specs.declared.Dropping.TheVariants.{Dropped, Refused}
+use Rattle.dropping.specs.Answers.{Dropping, Dropped, Refused}
 use Rattle.dropping.specs.Dropping.{shortened}
 
 -- A list names delega d.

@@ -5,13 +5,12 @@ use mathlib.Core.Bool.{true}
 use mathlib.Core.List.{List, [], ◌∷◌, ◌++◌, append_assoc}
 use native.Mathlib.Omega.{arith}
 use lib.ListN.{length, length-append}
-use Rattle.ep_accounts.specs.declared.Accounts.TheVariants.{Sum}
+use Rattle.ep_accounts.specs.Answers.{Sum}
 use Rattle.ep_accounts.specs.Printed.{used_debits}
 use Rattle.ep_accounts.specs.Accounts.{accounts_in}
 use Rattle.ep_accounts.proofs.Exactly.{balanced-accounts}
 use Rattle.ep.specs.declared.Kind.{Kind}
-use Rattle.ep.specs.declared.Outcome.{Outcome}
-use Rattle.ep.specs.declared.Outcome.TheVariants.{Pass}
+use Rattle.ep.specs.Answers.{Outcome, Pass}
 use Rattle.ep.specs.declared.Tally.{Tally}
 use Rattle.ep.specs.Payments.{total_in, here, closing, fault_by, fault, with_accounts, with_payment, next_by, next, unless, judged_from}
 use Rattle.ep.specs.Plain.{first_of, count_m, used_in, RightV, AllV, States, Paid, none, paid}

@@ -3,8 +3,8 @@ use Prim.Native.Nat.{ℕ}
 use mathlib.Core.Path.{◌≡◌}
 use mathlib.Core.Bool.{true, false}
 use borrow.Author.Tests.{eq-eqb, ne_eqb}
-use Rattle.ep_total.specs.declared.Total.TheVariants.{Cents, NoTotal}
-use Rattle.ep.specs.declared.Outcome.TheVariants.{Pass, Fault}
+use Rattle.ep_total.specs.Answers.{Cents, NoTotal}
+use Rattle.ep.specs.Answers.{Pass, Fault}
 use Rattle.ep.specs.declared.Tally.{Tally}
 use Rattle.ep.specs.Payments.{closing}
 

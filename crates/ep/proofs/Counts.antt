@@ -8,7 +8,7 @@ use native.Mathlib.Nat.{min-le_left}
 use borrow.Author.Tests.{eq-eqb, ne_eqb, eqb-true, eqb-false}
 use lib.Dec.{eqb}
 use lib.ListN.{length, take, drop, length-take}
-use Rattle.ep_total.specs.declared.Total.TheVariants.{Cents}
+use Rattle.ep_total.specs.Answers.{Cents}
 use Rattle.ep_total.proofs.Inverse.{written_read, own-text}
 use Rattle.ep_accounts.specs.Printed.{used_debits}
 use Rattle.ep.specs.declared.Kind.{Kind}

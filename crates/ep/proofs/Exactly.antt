@@ -5,9 +5,7 @@ use mathlib.Core.Bool.{Bool, true, false}
 use mathlib.Core.List.{List, [], ◌∷◌, append-nil}
 use native.Mathlib.Omega.{arith}
 use lib.ListN.{length}
-use Rattle.ep.specs.declared.Outcome.{Outcome}
-use Rattle.ep.specs.declared.EpAnswer.{EpAnswer}
-use Rattle.ep.specs.declared.EpAnswer.TheVariants.{Accepted, Refused}
+use Rattle.ep.specs.Answers.{Outcome, EpAnswer, Accepted, Refused}
 use Rattle.ep.specs.Payments.{no_tally, here, unless, ended, judged_from, records_in, size_right, judged}
 use Rattle.ep.specs.Plain.{count_m, used_in, totals_in, Paid, Stops, early, unknown, alone, no-digits, no-sum, no-total, records_of, Sized}
 use Rattle.ep.proofs.Closes.{none_open}

@@ -4,19 +4,15 @@ use mathlib.Core.Path.{◌≡◌, refl, ap, ◌∙◌}
 use mathlib.Core.List.{List, [], ◌∷◌, ◌++◌}
 use native.Mathlib.Omega.{arith}
 use lib.ListN.{length}
-use Rattle.ep_total.specs.declared.Total.{Total}
-use Rattle.ep_total.specs.declared.Total.TheVariants.{Cents, NoTotal}
+use Rattle.ep_total.specs.Answers.{Total, Cents, NoTotal}
 use Rattle.text.specs.Numbers.{amount_of}
-use Rattle.ep_accounts.specs.declared.Accounts.{Accounts}
-use Rattle.ep_accounts.specs.declared.Accounts.TheVariants.{Sum, NonDigit, Unequal}
+use Rattle.ep_accounts.specs.Answers.{Accounts, Sum, NonDigit, Unequal}
 use Rattle.ep_accounts.specs.Accounts.{is_number, accounts_in}
 use Rattle.ep_accounts.specs.Printed.{printed_rows, printed_debits, printed_balance, amount_at, used_debits, DigitsAt, UsedDigits}
 use Rattle.ep_accounts.proofs.Exactly.{accounts-balanced, accounts-no-digits, accounts-no-sum}
 use Rattle.ep.specs.declared.Kind.{Kind}
 use Rattle.ep.specs.declared.Kind.TheVariants.{RecordM, RecordV, OtherRecord}
-use Rattle.ep.specs.declared.Outcome.{Outcome}
-use Rattle.ep.specs.declared.Outcome.TheVariants.{Pass, Fault}
-use Rattle.ep.specs.declared.EpAnswer.TheVariants.{Refused}
+use Rattle.ep.specs.Answers.{Outcome, Pass, Fault, Refused}
 use Rattle.ep.specs.declared.Tally.{Tally}
 use Rattle.ep.specs.Payments.{total_in, no_tally, here, closing, accounts_fault, fault_by, fault, with_payment, next_by, next, unless, ended, judged_from, kind_of, judged}
 use Rattle.ep.specs.Plain.{first_of, used_in, AllV, States, Paid, NoV, Stops, early, unknown, alone, no-digits, no-sum, no-total, records_of, Sized}

@@ -2,7 +2,7 @@
 use Prim.Native.Nat.{ℕ}
 use mathlib.Core.Path.{◌≡◌, sym, ◌∙◌}
 use mathlib.Core.List.{List}
-use Rattle.ep.specs.declared.EpAnswer.{EpAnswer}
+use Rattle.ep.specs.Answers.{EpAnswer}
 use Rattle.ep.specs.declared.Course.{Course}
 use Rattle.ep.specs.Payments.{judged}
 use Rattle.ep.specs.Stream.{took, answered}

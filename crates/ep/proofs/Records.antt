@@ -8,9 +8,7 @@ use borrow.Author.Tests.{eq-eqb, ne_eqb, le-ltb, eqb-true, eqb-false, ltb-false}
 use lib.Dec.{eqb, ltb}
 use lib.ListN.{length, take, drop}
 use lib.Seq.{drop-drop}
-use Rattle.ep.specs.declared.Outcome.{Outcome}
-use Rattle.ep.specs.declared.Outcome.TheVariants.{Pass, Fault}
-use Rattle.ep.specs.declared.EpAnswer.TheVariants.{Refused}
+use Rattle.ep.specs.Answers.{Outcome, Pass, Fault, Refused}
 use Rattle.ep.specs.declared.Tally.{Tally}
 use Rattle.ep.specs.declared.Step.{Step}
 use Rattle.text.proofs.Bytes.{part_length}

@@ -4,14 +4,13 @@ use mathlib.Core.Path.{◌≡◌, refl, sym, ap, ◌∙◌}
 use mathlib.Core.List.{List}
 use native.Mathlib.Omega.{arith}
 use lib.ListN.{length}
-use Rattle.ep_total.specs.declared.Total.{Total}
-use Rattle.ep_accounts.specs.declared.Accounts.{Accounts}
-use Rattle.ep_accounts.specs.declared.Accounts.TheVariants.{Sum, NonDigit, Unequal}
+use Rattle.ep_total.specs.Answers.{Total}
+use Rattle.ep_accounts.specs.Answers.{Accounts, Sum, NonDigit, Unequal}
 use Rattle.ep_accounts.specs.Accounts.{accounts_in}
 use Rattle.ep_accounts.proofs.Sums.{sum_below}
 use Rattle.ep.specs.declared.Kind.{Kind}
 use Rattle.ep.specs.declared.Kind.TheVariants.{RecordM, RecordV, OtherRecord}
-use Rattle.ep.specs.declared.Outcome.{Outcome}
+use Rattle.ep.specs.Answers.{Outcome}
 use Rattle.ep.specs.declared.Tally.{Tally}
 use Rattle.ep.specs.declared.Step.{Step}
 use Rattle.ep.specs.Payments.{kind_of, total_in, no_tally, here, closing, v_fault, after_other, fault_by, fault, added, with_accounts, with_payment, with_other, next_by, next, stepped}

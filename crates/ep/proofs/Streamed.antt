@@ -1,4 +1,5 @@
 -- The answer of the pieces, taken one after the other, is the judgement of all their bytes.
+use Rattle.std.specs.Prelude.{Err}
 use Prim.Native.Nat.{ℕ, suc, zero, ◌+◌, ◌*◌, ◌/◌, ◌<◌, ◌≤◌}
 use mathlib.Core.Path.{◌≡◌, refl, sym, ap, ◌∙◌}
 use mathlib.Core.Bool.{Bool, true, false}
@@ -10,9 +11,7 @@ use lib.Dec.{eqb, ltb}
 use lib.ListN.{length, length-append, take, drop, length-drop, take-append-drop}
 use lib.Seq.{take_at, drop_at}
 use Rattle.text.proofs.Bytes.{part_length}
-use Rattle.ep.specs.declared.Outcome.{Outcome}
-use Rattle.ep.specs.declared.Outcome.TheVariants.{Pass, Fault}
-use Rattle.ep.specs.declared.EpAnswer.TheVariants.{Refused}
+use Rattle.ep.specs.Answers.{Outcome, Pass, Fault, Refused}
 use Rattle.ep.specs.declared.Course.{Course}
 use Rattle.ep.specs.Payments.{no_tally, fault, next, unless, judged_from, records_in, size_right, judged}
 use Rattle.ep.specs.Stream.{start_course, unfit, tally_by, outcome_by, counted, took, answered, took_all, joined, Cut}
@@ -61,7 +60,7 @@ sound-counted c p s l h = go c.outcome
   where
     go : (o : Outcome) → Sound (record { fits = true; records = c.records + 1; tally = tally_by o c.tally p; outcome = outcome_by o c.tally p })
     go Pass = record { small = small-next c.tally p l s.small (omega (arith, s.behind)); behind = omega (arith, s.behind, seen_next c.tally p); most = omega arith }
-    go (Fault e n) = record { small = s.small; behind = omega (arith, s.behind); most = omega arith }
+    go (Err why) = record { small = s.small; behind = omega (arith, s.behind); most = omega arith }
 
 pub sound-took : (c : Course) (p : List ℕ) → Sound c → Sound (took c p)
 sound-took c p s = go c.fits refl (eqb (length p) 1900) refl (ltb c.records 10000) refl
@@ -97,7 +96,7 @@ by-course c p ps = go c.outcome
   where
     go : (o : Outcome) → unless (outcome_by o c.tally p) (judged_from (tally_by o c.tally p) ps) ≡ unless o (unless (fault c.tally p) (judged_from (next c.tally p) ps))
     go Pass = refl
-    go (Fault e n) = refl
+    go (Err why) = refl
 
 -- Records that are not too many are judged.
 few-judged : (c : Course) (ps : List (List ℕ)) → c.fits ≡ true → Whole ps → 0 < c.records + length ps → c.records + length ps ≤ 10000 → answered (took_all c ps) ≡ unless c.outcome (judged_from c.tally ps)

@@ -1,4 +1,5 @@
 -- What is answered of records: payments that are all right are accepted with their count and their sum, and else the first fault is told.
+use Rattle.std.specs.Prelude.{Err}
 use Prim.Native.Nat.{ℕ, suc, ◌+◌, ◌<◌}
 use mathlib.Core.Path.{◌≡◌, refl, sym, ap, ◌∙◌}
 use mathlib.Core.Bool.{Bool, true, false}
@@ -7,19 +8,14 @@ use native.Mathlib.Omega.{arith}
 use borrow.Author.Tests.{eqb-true, eqb-false, ltb-true, ltb-false, lt-ltb, eq-eqb, ne_eqb}
 use lib.Dec.{eqb, ltb}
 use lib.ListN.{length, length-append}
-use Rattle.ep_total.specs.declared.Total.{Total}
-use Rattle.ep_total.specs.declared.Total.TheVariants.{Cents, NoTotal}
-use Rattle.ep_accounts.specs.declared.Accounts.{Accounts}
-use Rattle.ep_accounts.specs.declared.Accounts.TheVariants.{Sum, NonDigit, Unequal}
+use Rattle.ep_total.specs.Answers.{Total, Cents, NoTotal}
+use Rattle.ep_accounts.specs.Answers.{Accounts, Sum, NonDigit, Unequal}
 use Rattle.ep_accounts.specs.Accounts.{accounts_in}
 use Rattle.ep_accounts.specs.Printed.{used_debits}
 use Rattle.ep_accounts.proofs.Exactly.{accounts-balanced, accounts-no-digits, accounts-no-sum}
 use Rattle.ep.specs.declared.Kind.{Kind}
 use Rattle.ep.specs.declared.Kind.TheVariants.{RecordM, RecordV, OtherRecord}
-use Rattle.ep.specs.declared.Outcome.{Outcome}
-use Rattle.ep.specs.declared.Outcome.TheVariants.{Pass, Fault}
-use Rattle.ep.specs.declared.EpAnswer.{EpAnswer}
-use Rattle.ep.specs.declared.EpAnswer.TheVariants.{Accepted, Refused}
+use Rattle.ep.specs.Answers.{Outcome, Pass, Fault, EpAnswer, Accepted, Refused}
 use Rattle.ep.specs.declared.Tally.{Tally}
 use Rattle.ep.specs.Payments.{total_in, no_tally, here, closing, accounts_fault, v_fault, after_other, fault_by, fault, with_accounts, with_payment, next_by, next, unless, ended, judged_from, kind_of}
 use Rattle.ep.specs.Plain.{first_of, count_m, used_in, RightV, AllV, Paid, none, NoV, Stops, early, unknown, alone, no-digits, no-sum, no-total}
@@ -177,7 +173,7 @@ first r b =
 -- A record that is neither M nor V is told where nothing before it is.
 other-unless : (n : ℕ) (o : Outcome) (a : EpAnswer) → unless (after_other n o) a ≡ unless o (Refused 31 n 0)
 other-unless n Pass a = refl
-other-unless n (Fault e k) a = refl
+other-unless n (Err why) a = refl
 
 told-from : (rs : List (List ℕ)) (t : Tally) (done all : List (List ℕ)) → Reached t done → all ≡ done ++ rs → Told all (judged_from t rs)
 unfolding judged_from ended fault next

@@ -1,17 +1,12 @@
 -- Believed. The records M and V of the F24 EP form: what is judged of each, in which order, and what is answered.
-use Rattle.std.specs.Prelude.{ℕ, zero, suc, ◌+◌, ◌/◌, ◌%◌, Bool, true, false, cond, List, [], ◌∷◌, eqb, ltb, length, take, drop, get_or}
-use Rattle.ep_total.specs.declared.Total.{Total}
-use Rattle.ep_total.specs.declared.Total.TheVariants.{Cents, NoTotal}
+use Rattle.std.specs.Prelude.{ℕ, zero, suc, ◌+◌, ◌/◌, ◌%◌, Bool, true, false, cond, List, [], ◌∷◌, eqb, ltb, length, take, drop, get_or, Err}
+use Rattle.ep_total.specs.Answers.{Total, Cents, NoTotal}
 use Rattle.ep_total.specs.Total.{total_of}
-use Rattle.ep_accounts.specs.declared.Accounts.{Accounts}
-use Rattle.ep_accounts.specs.declared.Accounts.TheVariants.{Sum, NonDigit, Unequal}
+use Rattle.ep_accounts.specs.Answers.{Accounts, Sum, NonDigit, Unequal}
 use Rattle.ep_accounts.specs.Accounts.{accounts_in}
 use Rattle.ep.specs.declared.Kind.{Kind}
 use Rattle.ep.specs.declared.Kind.TheVariants.{RecordM, RecordV, OtherRecord}
-use Rattle.ep.specs.declared.Outcome.{Outcome}
-use Rattle.ep.specs.declared.Outcome.TheVariants.{Pass, Fault}
-use Rattle.ep.specs.declared.EpAnswer.{EpAnswer}
-use Rattle.ep.specs.declared.EpAnswer.TheVariants.{Accepted, Refused}
+use Rattle.ep.specs.Answers.{Outcome, Pass, Fault, EpAnswer, Accepted, Refused}
 use Rattle.ep.specs.declared.Tally.{Tally}
 use Rattle.ep.specs.declared.Step.{Step}
 
@@ -53,7 +48,7 @@ v_fault t a = cond (eqb t.count 0) (Fault 31 (here t)) (accounts_fault (here t) 
 -- "31 order of records": a record that is neither stands nowhere, and what is judged before it goes first
 abbrev pub after_other : ℕ → Outcome → Outcome
 after_other n Pass = Fault 31 n
-after_other n (Fault e m) = Fault e m
+after_other n (Err why) = Err why
 
 -- the checks of one record: an M is judged with what stands before it
 abbrev pub fault_by : Kind → Tally → List ℕ → Outcome
@@ -99,7 +94,7 @@ stepped t r = record { tally = next t r; outcome = fault t r }
 -- "with the record's number and position 0"
 abbrev pub unless : Outcome → EpAnswer → EpAnswer
 unless Pass a = a
-unless (Fault e n) a = Refused e n 0
+unless (Err why) a = Refused why.number why.«record» 0
 
 -- "Acceptance answers the count of M and the sum of their totals", once the last M is closed
 unfoldable pub ended : Tally → EpAnswer

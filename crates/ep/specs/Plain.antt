@@ -1,7 +1,6 @@
 -- For theorems. The records as payments: an M, and behind it one or more V. Nothing here is kept from one record to the next.
 use Rattle.std.specs.Prelude.{ℕ, suc, ◌+◌, ◌-◌, ◌/◌, ◌%◌, ◌<◌, ◌≤◌, ◌≡◌, cond, List, [], ◌∷◌, ◌++◌, eqb, length, take, drop, get_or}
-use Rattle.ep_total.specs.declared.Total.{Total}
-use Rattle.ep_total.specs.declared.Total.TheVariants.{Cents, NoTotal}
+use Rattle.ep_total.specs.Answers.{Total, Cents, NoTotal}
 use Rattle.ep_total.specs.Total.{total_field}
 use Rattle.ep_accounts.specs.Printed.{printed_rows, printed_debits, printed_balance, amount_at, used_debits, DigitsAt, UsedDigits, Balanced}
 use Rattle.ep.specs.Payments.{total_in, records_in}

@@ -1,9 +1,6 @@
 -- Serves inner functions. The records as they are read, piece by piece, and the answer at the end: the theorem `streamed` says that it is that of all the bytes read.
-use Rattle.std.specs.Prelude.{ℕ, ◌+◌, ◌<◌, ◌≤◌, Bool, true, false, cond, List, [], ◌∷◌, ◌++◌, ◌≡◌, eqb, ltb, length}
-use Rattle.ep.specs.declared.Outcome.{Outcome}
-use Rattle.ep.specs.declared.Outcome.TheVariants.{Pass, Fault}
-use Rattle.ep.specs.declared.EpAnswer.{EpAnswer}
-use Rattle.ep.specs.declared.EpAnswer.TheVariants.{Refused}
+use Rattle.std.specs.Prelude.{ℕ, ◌+◌, ◌<◌, ◌≤◌, Bool, true, false, cond, List, [], ◌∷◌, ◌++◌, ◌≡◌, eqb, ltb, length, Err}
+use Rattle.ep.specs.Answers.{Outcome, Pass, Fault, EpAnswer, Refused}
 use Rattle.ep.specs.declared.Tally.{Tally}
 use Rattle.ep.specs.declared.Course.{Course}
 use Rattle.ep.specs.Payments.{no_tally, fault, next, unless, ended}
@@ -19,11 +16,11 @@ unfit c = record { fits = false; records = c.records; tally = c.tally; outcome =
 -- behind a fault a record is only counted
 abbrev pub tally_by : Outcome → Tally → List ℕ → Tally
 tally_by Pass t r = next t r
-tally_by (Fault e n) t r = t
+tally_by (Err why) t r = t
 
 abbrev pub outcome_by : Outcome → Tally → List ℕ → Outcome
 outcome_by Pass t r = fault t r
-outcome_by (Fault e n) t r = Fault e n
+outcome_by (Err why) t r = Err why
 
 -- after one record more
 unfoldable pub counted : Course → List ℕ → Course

@@ -8,12 +8,11 @@ use native.Mathlib.Decide.{dec_le}
 use borrow.Author.Tests.{eqb-false, ne_eqb}
 use lib.Dec.{eqb}
 use lib.ListN.{take, drop, get_or}
-use Rattle.text.specs.declared.Digits.{Digits}
-use Rattle.text.specs.declared.Digits.TheVariants.{Number, TooLong}
-use Rattle.text.specs.declared.Digits.TheVariants as Read
+use Rattle.text.specs.Answers.{Digits, Number, TooLong}
+use Rattle.text.specs.Answers as Read
 use Rattle.text.specs.Numbers.{number_of, amount_of}
 use Rattle.text.proofs.Tests.{both_true}
-use Rattle.ep_accounts.specs.declared.Accounts.TheVariants.{Sum, NonDigit, Unequal}
+use Rattle.ep_accounts.specs.Answers.{Sum, NonDigit, Unequal}
 use Rattle.ep_accounts.specs.Accounts.{row_count, blank, type_in, debit_field, debit_of, is_number, digits_to, debits_to, debits_in, balance_start, balance_in, against_balance, accounts_in}
 use Rattle.ep_accounts.specs.Printed.{printed_rows, printed_debits, printed_balance, amount_at, used_debits, DigitsAt, UsedDigits, Balanced}
 use Rattle.ep_accounts.proofs.Sums.{rows-printed, accounts-parts, accounts-used, parts-accounts}

@@ -2,7 +2,7 @@
 use Prim.Native.Nat.{ℕ}
 use mathlib.Core.Path.{◌≡◌, sym, ◌∙◌}
 use mathlib.Core.List.{List}
-use Rattle.ep_accounts.specs.declared.Accounts.{Accounts}
+use Rattle.ep_accounts.specs.Answers.{Accounts}
 use Rattle.ep_accounts.specs.Accounts.{accounts_in}
 
 -- `accounts_in`

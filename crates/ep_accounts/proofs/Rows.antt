@@ -12,16 +12,14 @@ use types.Run.{OneOf}
 use denote.Enum.Declared.{tag_of}
 use lib.Dec.{eqb}
 use lib.ListN.{length, take, drop}
-use Rattle.text.specs.declared.Digits.{Digits}
-use Rattle.text.specs.declared.Digits.TheVariants.{Number, NonDigit, TooLong}
+use Rattle.text.specs.Answers.{Digits, Number, NonDigit, TooLong}
 use Rattle.text.specs.Numbers.{number_of, amount_of, read_number}
 use Rattle.text.proofs.Bytes.{part_length}
 use Rattle.text.specs.contracts.Digits.{the_type}
 use Rattle.text.proofs.Numerals.{read-is-number, number-below}
 use Rattle.text.proofs.Tests.{either_way}
-use Rattle.ep_accounts.specs.declared.Accounts.{Accounts}
-use Rattle.ep_accounts.specs.declared.Accounts.TheVariants.{Sum, Unequal}
-use Rattle.ep_accounts.specs.declared.Accounts.TheVariants as Faulty
+use Rattle.ep_accounts.specs.Answers.{Accounts, Sum, Unequal}
+use Rattle.ep_accounts.specs.Answers as Faulty
 use Rattle.ep_accounts.specs.Accounts.{row_count, blank, row_start, type_in, debit_field, debit_of, is_number, digits_to, debits_to, debits_in, balance_in, balanced, against_balance, accounts_in}
 use Rattle.ep_accounts.specs.contracts.Accounts.{the_type as accounts-type}
 

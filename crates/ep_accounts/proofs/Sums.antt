@@ -7,13 +7,12 @@ use native.Mathlib.Omega.{arith}
 use borrow.Author.Tests.{eq-eqb, eqb-true}
 use lib.Dec.{eqb}
 use lib.ListN.{length, take, drop}
-use Rattle.text.specs.declared.Digits.{Digits}
-use Rattle.text.specs.declared.Digits.TheVariants.{Number, TooLong}
-use Rattle.text.specs.declared.Digits.TheVariants as Read
+use Rattle.text.specs.Answers.{Digits, Number, TooLong}
+use Rattle.text.specs.Answers as Read
 use Rattle.text.specs.Numbers.{amount_of, number_of}
 use Rattle.text.proofs.Bytes.{part_length}
 use Rattle.text.proofs.Numerals.{number-below}
-use Rattle.ep_accounts.specs.declared.Accounts.TheVariants.{Sum, NonDigit, Unequal}
+use Rattle.ep_accounts.specs.Answers.{Sum, NonDigit, Unequal}
 use Rattle.ep_accounts.specs.Accounts.{row_count, blank, type_in, debit_field, debit_of, digits_to, debits_to, debits_in, balance_start, balance_in, against_balance, accounts_in}
 use Rattle.ep_accounts.specs.Printed.{used_from, used_debits}
 

@@ -1,11 +1,9 @@
 -- Believed. A record V of the F24 EP form: what its 28 rows and its final balance say. Bytes and rows are counted from 0 here.
 use Rattle.std.specs.Prelude.{ℕ, zero, suc, ◌+◌, ◌*◌, Bool, true, false, cond, List, eqb, take, drop, get_or}
-use Rattle.text.specs.declared.Digits.{Digits}
-use Rattle.text.specs.declared.Digits.TheVariants.{Number, TooLong}
-use Rattle.text.specs.declared.Digits.TheVariants as Read
+use Rattle.text.specs.Answers.{Digits, Number, TooLong}
+use Rattle.text.specs.Answers as Read
 use Rattle.text.specs.Numbers.{number_of, amount_of}
-use Rattle.ep_accounts.specs.declared.Accounts.{Accounts}
-use Rattle.ep_accounts.specs.declared.Accounts.TheVariants.{Sum, NonDigit, Unequal}
+use Rattle.ep_accounts.specs.Answers.{Accounts, Sum, NonDigit, Unequal}
 
 -- "The number of rows is the one 001 prints"
 abbrev pub row_count : ℕ

@@ -1,6 +1,6 @@
 -- For theorems. The rows as 001 prints them, position by position, counted from 1: nothing here goes by a rule over the row's number.
 use Rattle.std.specs.Prelude.{ℕ, ◌+◌, ◌-◌, ◌≡◌, true, cond, List, [], ◌∷◌, eqb, take, drop, get_or}
-use Rattle.text.specs.declared.Digits.TheVariants.{Number}
+use Rattle.text.specs.Answers.{Number}
 use Rattle.text.specs.Numbers.{number_of, amount_of}
 use Rattle.ep_accounts.specs.Accounts.{is_number}
 

@@ -10,7 +10,7 @@ use lib.Dec.{eqb}
 use lib.ListN.{length}
 use Rattle.text.specs.Same.{same_bytes}
 use Rattle.text.proofs.Same.{same_bytes_lem, same-itself}
-use Rattle.ep_total.specs.declared.Total.TheVariants.{Cents, NoTotal}
+use Rattle.ep_total.specs.Answers.{Cents, NoTotal}
 use Rattle.ep_total.specs.Total.{total_field, digits_in, own_text, total_of}
 use Rattle.ep_total.proofs.Texts.{digits-field, text-short, text-long, field-length, field-long}
 use Rattle.ep_total.proofs.Reading.{own}

@@ -2,7 +2,7 @@
 use Prim.Native.Nat.{ℕ}
 use mathlib.Core.Path.{◌≡◌, sym, ◌∙◌}
 use mathlib.Core.List.{List}
-use Rattle.ep_total.specs.declared.Total.{Total}
+use Rattle.ep_total.specs.Answers.{Total}
 use Rattle.ep_total.specs.Total.{total_of}
 
 -- `read_total`

@@ -9,7 +9,7 @@ use lib.ListN.{length, take, replicate}
 use Rattle.text.specs.Same.{same_bytes}
 use Rattle.text.proofs.Same.{same-lengths}
 use Rattle.printing.specs.Appended.{Appended}
-use Rattle.ep_total.specs.declared.Total.TheVariants.{Cents, NoTotal}
+use Rattle.ep_total.specs.Answers.{Cents, NoTotal}
 use Rattle.ep_total.specs.Total.{space, total_text, total_field, digits_in, own_text, total_of}
 use Rattle.ep_total.proofs.Texts.{field-long, field_put}
 

@@ -9,7 +9,7 @@ use Rattle.text.specs.Numbers.{digits_of}
 use Rattle.text.specs.Same.{same_bytes}
 use Rattle.printing.specs.Decimal.{width_within, width_of, decimal}
 use Rattle.printing.proofs.Widths.{decimal-between}
-use Rattle.ep_total.specs.declared.Total.TheVariants.{Cents, NoTotal}
+use Rattle.ep_total.specs.Answers.{Cents, NoTotal}
 use Rattle.ep_total.specs.Total.{dot, comma, dotted_within, dotted, euro_text, total_text, total_field, with_digit, digits_in, total_of}
 use Rattle.ep_total.proofs.Dotted.{dotted-small, dotted-more, euros-dotted, euros-plain}
 use Rattle.ep_total.proofs.Reading.{other}

@@ -3,8 +3,7 @@ use Rattle.std.specs.Prelude.{ℕ, zero, suc, ◌-◌, ◌*◌, ◌+◌, ◌/◌
 use Rattle.text.specs.Numbers.{digit, digits_of}
 use Rattle.text.specs.Same.{same_bytes}
 use Rattle.printing.specs.Decimal.{decimal}
-use Rattle.ep_total.specs.declared.Total.{Total}
-use Rattle.ep_total.specs.declared.Total.TheVariants.{Cents, NoTotal}
+use Rattle.ep_total.specs.Answers.{Total, Cents, NoTotal}
 
 -- "dots for thousands"
 abbrev pub dot : ℕ

@@ -1,11 +1,11 @@
 -- What the call for the F24 EP form returns and leaves in the room that it is lent: the answer in its first two numbers, what stands behind them as it came, and all of one that is too short.
+use Rattle.std.specs.Prelude.{Ok, Err}
 use Prim.Native.Nat.{ℕ, ◌<◌, ◌≤◌}
 use mathlib.Core.Path.{◌≡◌, refl, sym, ap, ◌∙◌}
 use mathlib.Core.List.{List, [], ◌∷◌}
 use lib.ListN.{length, take, drop}
 use Rattle.state.specs.Numbers.{overlay}
-use Rattle.ep.specs.declared.EpAnswer.{EpAnswer}
-use Rattle.ep.specs.declared.EpAnswer.TheVariants.{Accepted, Refused}
+use Rattle.ep.specs.Answers.{EpAnswer, Accepted, Refused}
 use Rattle.ep.specs.Payments.{judged}
 use Rattle.f24.specs.LinkedEp.{ep_number, ep_numbers, ep_code, ep_room}
 use Rattle.f24.proofs.Rooms.{short-code, long-code, short-room, long-room}
@@ -13,13 +13,13 @@ use Rattle.f24.proofs.Rooms.{short-code, long-code, short-room, long-room}
 -- two numbers are laid over a room whatever is answered
 behind : (a : EpAnswer) (room : List ℕ) → drop 2 (overlay (ep_numbers a) room) ≡ drop 2 room
 unfolding overlay
-behind (Accepted c s) room = refl
-behind (Refused n r p) room = refl
+behind (Ok why) room = refl
+behind (Err why) room = refl
 
 first : (a : EpAnswer) (room : List ℕ) → take 2 (overlay (ep_numbers a) room) ≡ ep_numbers a
 unfolding overlay
-first (Accepted c s) room = refl
-first (Refused n r p) room = refl
+first (Ok why) room = refl
+first (Err why) room = refl
 
 module _ (records room : List ℕ) where
   -- Too short, it returns 100, and the room stays.

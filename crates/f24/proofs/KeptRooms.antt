@@ -1,20 +1,21 @@
 -- A call with a record that does not return 0, whether it is refused or a room is too short, leaves the record's room, the flow and the list as they came.
+use Rattle.std.specs.Prelude.{Err}
 use Prim.Native.Nat.{ℕ, ◌≤◌}
 use mathlib.Core.Path.{◌≡◌, refl}
 use mathlib.Core.Bool.{Bool, true, false, cond}
 use mathlib.Core.List.{List}
 use borrow.Author.Tests.{ne_eqb}
 use native.Mathlib.Omega.{arith}
-use Rattle.judge.specs.Refusal.{Refusal}
-use Rattle.correct.specs.declared.Correction.{Correction}
-use Rattle.correct.specs.declared.Correction.TheVariants as Correct
+use Rattle.refusal.specs.declared.Refusal.{Refusal}
+use Rattle.correct.specs.Answers.{Correction}
+use Rattle.correct.specs.Answers as Correct
 use Rattle.correct.specs.Correction.{refusal_made, bytes_after, corrected_bytes}
-use Rattle.mend.specs.declared.Mending.{Mending}
-use Rattle.mend.specs.declared.Mending.TheVariants as Mend
+use Rattle.mend.specs.Answers.{Mending}
+use Rattle.mend.specs.Answers as Mend
 use Rattle.mend.specs.Mending as Rebalancing
 use Rattle.mend.specs.Mending.{refusal_mended, mended_flow, mended_list}
-use Rattle.dropping.specs.declared.Dropping.{Dropping}
-use Rattle.dropping.specs.declared.Dropping.TheVariants as Drop
+use Rattle.dropping.specs.Answers.{Dropping}
+use Rattle.dropping.specs.Answers as Drop
 use Rattle.dropping.specs.Dropping as Shortening
 use Rattle.dropping.specs.Dropping.{refusal_dropped, dropped_flow}
 use Rattle.sums.specs.declared.KeptSums.{KeptSums}
@@ -40,15 +41,15 @@ module _ (kept answer : List ℕ) (x : Refusal) {m : ℕ} (h : 1 ≤ m) (e : cod
 -- So are the flow of a correction, flow and list of a rebalancing, and the flow of a dropping.
 made-stays : (a : Correction) (new old : List ℕ) → 1 ≤ (refusal_made a).number → bytes_after a new old ≡ old
 made-stays Correct.Made new old h = absurd (omega arith)
-made-stays (Correct.Refused n r p) new old h = refl
+made-stays (Err why) new old h = refl
 
 mended-stays : (a : Mending) (new old : List ℕ) → 1 ≤ (refusal_mended a).number → Rebalancing.flow_by a new old ≡ old
 mended-stays (Mend.Mended n) new old h = absurd (omega arith)
-mended-stays (Mend.Refused n r p) new old h = refl
+mended-stays (Err why) new old h = refl
 
 dropped-stays : (a : Dropping) (new old : List ℕ) → 1 ≤ (refusal_dropped a).number → Shortening.flow_by a new old ≡ old
 dropped-stays (Drop.Dropped n) new old h = absurd (omega arith)
-dropped-stays (Drop.Refused n r p) new old h = refl
+dropped-stays (Err why) new old h = refl
 
 -- `f24_kept`: the record's room
 pub kept-stays : (f kept answer : List ℕ) {m : ℕ} → 1 ≤ m → kept_code f kept answer ≡ m → kept_record f kept answer ≡ kept

@@ -1,4 +1,5 @@
 -- A call with a record that returns 0 leaves the record of the flow in its room: what the next call reads there is the sums of the flow as it is then.
+use Rattle.std.specs.Prelude.{Err}
 use Prim.Native.Nat.{ℕ, ◌≤◌}
 use mathlib.Core.Path.{◌≡◌, refl, sym, ap, ◌∙◌}
 use mathlib.Core.Bool.{Bool, true, false, cond}
@@ -9,19 +10,19 @@ use lib.ListN.{length, take, get_or}
 use Rattle.amounts.specs.declared.Sums.{Sums}
 use Rattle.state.specs.Numbers.{overlay, sums_numbers, sums_at}
 use Rattle.state.proofs.Rooms.{five-sums, five-of}
-use Rattle.judge.specs.declared.Verdict.{Verdict}
-use Rattle.judge.specs.declared.Verdict.TheVariants as Judge
-use Rattle.judge.specs.Refusal.{Refusal, refusal_of}
+use Rattle.judge.specs.Refusal.{Verdict, refusal_of}
+use Rattle.judge.specs.Refusal as Judge
+use Rattle.refusal.specs.declared.Refusal.{Refusal}
 use Rattle.judge.specs.Flow.{judged}
 use Rattle.judge.proofs.FirstFault.{judgement-number}
-use Rattle.correct.specs.declared.Correction.{Correction}
-use Rattle.correct.specs.declared.Correction.TheVariants as Correct
+use Rattle.correct.specs.Answers.{Correction}
+use Rattle.correct.specs.Answers as Correct
 use Rattle.correct.specs.Correction.{refusal_made, correction_of, corrected_bytes}
-use Rattle.mend.specs.declared.Mending.{Mending}
-use Rattle.mend.specs.declared.Mending.TheVariants as Mend
+use Rattle.mend.specs.Answers.{Mending}
+use Rattle.mend.specs.Answers as Mend
 use Rattle.mend.specs.Mending.{refusal_mended, mending_of, mended_flow, mended_list}
-use Rattle.dropping.specs.declared.Dropping.{Dropping}
-use Rattle.dropping.specs.declared.Dropping.TheVariants as Drop
+use Rattle.dropping.specs.Answers.{Dropping}
+use Rattle.dropping.specs.Answers as Drop
 use Rattle.dropping.specs.Dropping.{refusal_dropped, dropping_of, dropped_flow}
 use Rattle.sums.specs.declared.KeptSums.{KeptSums}
 use Rattle.sums.specs.LineSums.{sums_in, kept_of}
@@ -75,19 +76,19 @@ none-accepted f e = go (judged f).verdict refl e
   where
     go : (v : Verdict) → (judged f).verdict ≡ v → (refusal_of v).number ≡ 0 → v ≡ Judge.Accepted
     go Judge.Accepted q i = refl
-    go (Judge.Refused n r p) q i = absurd (omega (arith, (judgement-number f q).0))
+    go (Err why) q i = absurd (omega (arith, (judgement-number f q).0))
 
 none_made : (a : Correction) → ((n r p : ℕ) → a ≡ Correct.Refused n r p → 1 ≤ n) → (refusal_made a).number ≡ 0 → a ≡ Correct.Made
 none_made Correct.Made h e = refl
-none_made (Correct.Refused n r p) h e = absurd (omega (arith, h n r p refl))
+none_made (Err why) h e = absurd (omega (arith, h why.number why.«record» why.position refl))
 
 none-mended : (a : Mending) → ((n r p : ℕ) → a ≡ Mend.Refused n r p → 1 ≤ n) → (refusal_mended a).number ≡ 0 → (m : ℕ) × (a ≡ Mend.Mended m)
 none-mended (Mend.Mended m) h e = (m, refl)
-none-mended (Mend.Refused n r p) h e = absurd (omega (arith, h n r p refl))
+none-mended (Err why) h e = absurd (omega (arith, h why.number why.«record» why.position refl))
 
 none_dropped : (a : Dropping) → ((n r p : ℕ) → a ≡ Drop.Refused n r p → 1 ≤ n) → (refusal_dropped a).number ≡ 0 → (m : ℕ) × (a ≡ Drop.Dropped m)
 none_dropped (Drop.Dropped m) h e = (m, refl)
-none_dropped (Drop.Refused n r p) h e = absurd (omega (arith, h n r p refl))
+none_dropped (Err why) h e = absurd (omega (arith, h why.number why.«record» why.position refl))
 
 -- `f24_kept`: the room has the record of the flow.
 pub kept-own : (f kept answer : List ℕ) → kept_code f kept answer ≡ 0 → kept_in (kept_record f kept answer) ≡ kept_of f

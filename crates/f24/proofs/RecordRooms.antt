@@ -7,7 +7,8 @@ use borrow.Author.Tests.{lt-ltb, le-ltb, ne_eqb}
 use native.Mathlib.Omega.{arith}
 use lib.ListN.{length}
 use Rattle.state.specs.Numbers.{overlay, sums_numbers}
-use Rattle.judge.specs.Refusal.{Refusal, refusal, no_refusal}
+use Rattle.refusal.specs.declared.Refusal.{Refusal}
+use Rattle.refusal.specs.Refusals.{refusal, no_refusal}
 use Rattle.sums.specs.declared.KeptSums.{KeptSums}
 use Rattle.answers.specs.Numbers.{refusal_numbers}
 use Rattle.f24.specs.Linked.{answer_numbers}

@@ -6,9 +6,8 @@ use borrow.Author.Tests.{lt-ltb, le-ltb, ne_eqb}
 use native.Mathlib.Omega.{arith}
 use lib.ListN.{length}
 use Rattle.state.specs.Numbers.{overlay}
-use Rattle.judge.specs.declared.Verdict.{Verdict}
-use Rattle.judge.specs.declared.Verdict.TheVariants.{Accepted}
-use Rattle.judge.specs.Refusal.{refusal, no_refusal, refusal_of}
+use Rattle.judge.specs.Refusal.{Verdict, Accepted, refusal_of}
+use Rattle.refusal.specs.Refusals.{refusal, no_refusal}
 use Rattle.answers.specs.Numbers.{refusal_numbers}
 use Rattle.f24.specs.Linked.{code_or, room_or, answer_numbers}
 

@@ -1,25 +1,26 @@
 -- Believed. What the linkable library returns, and what it leaves in the memory that it is lent.
-use Rattle.std.specs.Prelude.{ℕ, cond, List, [], ◌∷◌, eqb, ltb, length}
+use Rattle.std.specs.Prelude.{ℕ, cond, List, [], ◌∷◌, eqb, ltb, length, Err}
 use Rattle.state.specs.Numbers.{overlay}
-use Rattle.judge.specs.Refusal.{Refusal, refusal_of}
+use Rattle.refusal.specs.declared.Refusal.{Refusal}
+use Rattle.judge.specs.Refusal.{refusal_of}
 use Rattle.judge.specs.Flow.{judged}
 use Rattle.portion.specs.declared.Portion.{Portion}
 use Rattle.portion.specs.Portion.{portioned}
 use Rattle.handed.specs.Room.{progress_of}
 use Rattle.delega.specs.OneDelega.{delega_of}
 use Rattle.answers.specs.Numbers.{summary_numbers, delega_numbers, refusal_numbers, course_code, portion_numbers, handed_back}
-use Rattle.find.specs.declared.Found.{Found}
-use Rattle.find.specs.declared.Found.TheVariants as Line
+use Rattle.find.specs.Answers.{Found}
+use Rattle.find.specs.Answers as Line
 use Rattle.find.specs.Line.{refusal_found, found_in}
 use Rattle.correct.specs.Correction.{refusal_made, correction_of, corrected_bytes}
-use Rattle.write.specs.declared.Writing.{Writing}
-use Rattle.write.specs.declared.Writing.TheVariants as Flow
+use Rattle.write.specs.Answers.{Writing}
+use Rattle.write.specs.Answers as Flow
 use Rattle.write.specs.Writing.{refusal_written, writing_of, room_after}
-use Rattle.mend.specs.declared.Mending.{Mending}
-use Rattle.mend.specs.declared.Mending.TheVariants as Listing
+use Rattle.mend.specs.Answers.{Mending}
+use Rattle.mend.specs.Answers as Listing
 use Rattle.mend.specs.Mending.{refusal_mended, mending_of, mended_flow, mended_list}
-use Rattle.dropping.specs.declared.Dropping.{Dropping}
-use Rattle.dropping.specs.declared.Dropping.TheVariants as Shorter
+use Rattle.dropping.specs.Answers.{Dropping}
+use Rattle.dropping.specs.Answers as Shorter
 use Rattle.dropping.specs.Dropping.{refusal_dropped, dropping_of, dropped_flow}
 
 -- A room of fewer than n numbers returns 100, and any other a code.
@@ -37,7 +38,7 @@ answer_numbers x xs = cond (eqb x.number 0) xs (refusal_numbers x.«record» x.p
 -- A line that is found writes the number of its record.
 abbrev pub found_numbers : Found → List ℕ
 found_numbers (Line.At k) = k ∷ []
-found_numbers (Line.Refused n r p) = []
+found_numbers (Err why) = []
 
 -- `f24_judge` returns 100 for a room of fewer than 14 numbers, and else what the judgement of the flow says.
 unfoldable pub judge_code : List ℕ → List ℕ → ℕ
@@ -78,7 +79,7 @@ correct_flow f d subtype n debit credit room = cond (ltb (length room) 2) f (cor
 -- A flow that is written writes its length.
 abbrev pub written_numbers : Writing → List ℕ
 written_numbers (Flow.Written n) = n ∷ []
-written_numbers (Flow.Refused n r p) = []
+written_numbers (Err why) = []
 
 -- `f24_write` returns 100 for an answer of fewer than 2 numbers, and else what the writing of the sheet's flow into the room says.
 unfoldable pub write_code : List ℕ → List ℕ → List ℕ → ℕ
@@ -95,7 +96,7 @@ write_room sheet room answer = cond (ltb (length answer) 2) room (room_after she
 -- A flow that is rebalanced writes the number of fields that are listed.
 abbrev pub mended_numbers : Mending → List ℕ
 mended_numbers (Listing.Mended n) = n ∷ []
-mended_numbers (Listing.Refused n r p) = []
+mended_numbers (Err why) = []
 
 -- `f24_rebalance` returns 100 for an answer of fewer than 2 numbers, and else what the rebalancing of the flow with that list says.
 unfoldable pub rebalance_code : List ℕ → List ℕ → List ℕ → ℕ
@@ -116,7 +117,7 @@ rebalance_list f list answer = cond (ltb (length answer) 2) list (mended_list f 
 -- A flow from which deleghe are dropped writes its new length.
 abbrev pub dropped_numbers : Dropping → List ℕ
 dropped_numbers (Shorter.Dropped n) = n ∷ []
-dropped_numbers (Shorter.Refused n r p) = []
+dropped_numbers (Err why) = []
 
 -- `f24_drop` returns 100 for an answer of fewer than 2 numbers, and else what the dropping of the deleghe with these numbers says.
 unfoldable pub drop_code : List ℕ → List ℕ → List ℕ → ℕ

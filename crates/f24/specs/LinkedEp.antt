@@ -1,20 +1,19 @@
 -- Believed. What the call of the linkable library for the F24 EP form returns, and what it leaves in the room that it is lent.
-use Rattle.std.specs.Prelude.{ℕ, List, [], ◌∷◌}
+use Rattle.std.specs.Prelude.{ℕ, List, [], ◌∷◌, Ok, Err}
 use Rattle.answers.specs.Numbers.{refusal_numbers}
-use Rattle.ep.specs.declared.EpAnswer.{EpAnswer}
-use Rattle.ep.specs.declared.EpAnswer.TheVariants.{Accepted, Refused}
+use Rattle.ep.specs.Answers.{EpAnswer, Accepted, Refused}
 use Rattle.ep.specs.Payments.{judged}
 use Rattle.f24.specs.Linked.{code_or, room_or}
 
 -- A refusal returns its number, and an acceptance 0.
 abbrev pub ep_number : EpAnswer → ℕ
-ep_number (Accepted c s) = 0
-ep_number (Refused n r p) = n
+ep_number (Ok why) = 0
+ep_number (Err why) = why.number
 
 -- A refusal writes its record and its position, and an acceptance the number of M and the sum of their totals.
 abbrev pub ep_numbers : EpAnswer → List ℕ
-ep_numbers (Accepted c s) = c ∷ s ∷ []
-ep_numbers (Refused n r p) = refusal_numbers r p
+ep_numbers (Ok why) = why.count ∷ why.sum ∷ []
+ep_numbers (Err why) = refusal_numbers why.«record» why.position
 
 -- `f24_ep_judge` returns 100 for a room of fewer than 2 numbers, and else what the judgement of the records says.
 unfoldable pub ep_code : List ℕ → List ℕ → ℕ

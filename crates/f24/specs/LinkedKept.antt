@@ -1,7 +1,8 @@
 -- Believed. What the calls of the linkable library that take a record return, and what they leave in the memory that they are lent.
 use Rattle.std.specs.Prelude.{ℕ, Bool, true, cond, List, [], eqb, ltb, length}
 use Rattle.state.specs.Numbers.{overlay, sums_numbers, sums_at}
-use Rattle.judge.specs.Refusal.{Refusal, refusal_of}
+use Rattle.refusal.specs.declared.Refusal.{Refusal}
+use Rattle.judge.specs.Refusal.{refusal_of}
 use Rattle.correct.specs.Correction.{refusal_made}
 use Rattle.mend.specs.Mending.{refusal_mended}
 use Rattle.dropping.specs.Dropping.{refusal_dropped}

@@ -6,7 +6,7 @@ use mathlib.Core.List.{List, [], ◌∷◌, ◌++◌}
 use native.Mathlib.Omega.{arith}
 use lib.ListN.{length, take, length-take, length-append}
 use Rattle.ep.specs.declared.Course.{Course}
-use Rattle.ep.specs.declared.EpAnswer.{EpAnswer}
+use Rattle.ep.specs.Answers.{EpAnswer}
 use Rattle.ep.specs.Bounds.{Sound}
 use Rattle.ep.specs.Stream.{start_course, took, took_all, joined, answered}
 use Rattle.ep.proofs.Streamed.{Whole, whole-last, whole-cut, cut-last, took-last, sound-start, sound-took, streamed, too_many}

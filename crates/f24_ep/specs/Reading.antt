@@ -1,7 +1,7 @@
 -- Serves inner functions. What can be said of records that are read piece by piece, where nothing can be said of what a read gives: that there are pieces, and bytes.
 use Rattle.std.specs.Prelude.{ℕ, ◌≤◌, ◌≡◌, List, length}
 use Rattle.ep.specs.declared.Course.{Course}
-use Rattle.ep.specs.declared.EpAnswer.{EpAnswer}
+use Rattle.ep.specs.Answers.{EpAnswer}
 use Rattle.ep.specs.Payments.{judged}
 use Rattle.ep.specs.Stream.{start_course, took_all, Cut}
 

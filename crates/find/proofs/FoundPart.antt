@@ -1,4 +1,5 @@
 -- The part of a found line is the record that the answer names, whole, and within the flow; and an answer has no refusal exactly where a line is found.
+use Rattle.std.specs.Prelude.{Err}
 use Prim.Native.Nat.{ℕ, ◌-◌, ◌/◌, ◌<◌, ◌≤◌}
 use mathlib.Core.Path.{◌≡◌, refl, sym, ap, ◌∙◌}
 use mathlib.Core.Bool.{Bool, true, false, cond}
@@ -7,14 +8,14 @@ use mathlib.Core.Logic.{◌↔◌}
 use native.Mathlib.Omega.{arith}
 use lib.Dec.{eqb}
 use lib.ListN.{length, get_or}
-use Rattle.judge.specs.declared.Verdict.{Verdict}
-use Rattle.judge.specs.declared.Verdict.TheVariants.{Accepted, Refused}
-use Rattle.judge.specs.Refusal.{Refusal, no_refusal, judged_first}
+use Rattle.judge.specs.Refusal.{Verdict, Accepted, Refused, judged_first}
+use Rattle.refusal.specs.declared.Refusal.{Refusal}
+use Rattle.refusal.specs.Refusals.{no_refusal}
 use Rattle.judge.specs.Flow.{records_of, judged}
 use Rattle.judge.proofs.Records.{length-chunks, record-whole, record-number}
 use Rattle.judge.proofs.FirstFault.{judgement-number}
-use Rattle.find.specs.declared.Found.{Found}
-use Rattle.find.specs.declared.Found.TheVariants as Answer
+use Rattle.find.specs.Answers.{Found}
+use Rattle.find.specs.Answers as Answer
 use Rattle.find.specs.Line.{refusal_found, line_of, or_absent, found_in}
 use Rattle.find.specs.Part.{part_of}
 use Rattle.find.proofs.NamedLine.{found-exactly}
@@ -33,7 +34,7 @@ found-accepted f d subtype n k e = go (judged f).verdict e
   where
     go : (v : Verdict) → judged_first Answer.Refused v (or_absent (line_of f d subtype n)) ≡ Answer.At k → v ≡ Accepted
     go Accepted q = refl
-    go (Refused m r p) q = let z : ◌≡◌ {A = ℕ} 0 1 = cc in absurd (omega arith)
+    go (Err why) q = let z : ◌≡◌ {A = ℕ} 0 1 = cc in absurd (omega arith)
 
 -- "A found line is handed back as that record"
 pub found_part : (f : List ℕ) (d subtype n k : ℕ) → found_in f d subtype n ≡ Answer.At k → KthRecord f k
@@ -53,7 +54,7 @@ found_number f d subtype n m r p e = by-verdict (judged f).verdict refl e
 
     by-verdict : (v : Verdict) → (judged f).verdict ≡ v → judged_first Answer.Refused v (or_absent (line_of f d subtype n)) ≡ Answer.Refused m r p → 1 ≤ m
     by-verdict Accepted h q = by-line (eqb (line_of f d subtype n) 0) q
-    by-verdict (Refused x y z) h q = let w : x ≡ m = cc in omega (arith, (judgement-number f h).0)
+    by-verdict (Err why) h q = let w : why.number ≡ m = cc in omega (arith, (judgement-number f h).0)
 
 -- "A refusal is a number, a record counted from 1, and a position": an answer has none exactly where it names a record
 pub found-refusal : (f : List ℕ) (d subtype n : ℕ) → (refusal_found (found_in f d subtype n) ≡ no_refusal) ↔ ((k : ℕ) × (found_in f d subtype n ≡ Answer.At k))

@@ -14,7 +14,7 @@ use Rattle.layout.specs.declared.Kind.TheVariants.{Head, Taxpayer, Domicile, Lin
 use Rattle.layout.specs.Kinds.{of_line, kind_in}
 use Rattle.layout.specs.Fields.{delega_number, value_of}
 use Rattle.layout.proofs.OtherKinds.{no_line}
-use Rattle.amounts.specs.declared.Outcome.TheVariants.{Pass}
+use Rattle.refusal.specs.Outcomes.{Pass}
 use Rattle.order.specs.declared.Stage.{Stage}
 use Rattle.rules.specs.declared.State.{State}
 use Rattle.order.specs.Stages.{stage_at, at_start, after_taxpayer, after_domicile, after_line, after_balance}

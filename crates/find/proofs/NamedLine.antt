@@ -16,14 +16,15 @@ use Rattle.layout.specs.Fields.{delega_number, value_of}
 use Rattle.layout.proofs.OtherKinds.{no_line}
 use Rattle.text.proofs.Tests.{both_true}
 use Rattle.rules.specs.State.{start_state}
-use Rattle.judge.specs.declared.Verdict.TheVariants.{Accepted}
+use Rattle.judge.specs.Refusal.{Accepted}
 use Rattle.judge.specs.Flow.{records_of, head_name_of, judged}
 use Rattle.judge.specs.Part.{record_at}
 use Rattle.judge.proofs.Accepted.{accepted-means-no-fault}
 use Rattle.judge.proofs.Records.{record-number}
-use Rattle.judge.specs.Refusal.{Refusal, refusal}
-use Rattle.find.specs.declared.Found.{Found}
-use Rattle.find.specs.declared.Found.TheVariants as Answer
+use Rattle.refusal.specs.declared.Refusal.{Refusal}
+use Rattle.refusal.specs.Refusals.{refusal}
+use Rattle.find.specs.Answers.{Found}
+use Rattle.find.specs.Answers as Answer
 use Rattle.find.specs.Line.{refusal_found, line_of, or_absent, found_in}
 use Rattle.find.specs.NamedLine.{line_with, count_of, NthLine}
 use Rattle.find.proofs.Subtypes.{Other, no_other, LineOrOther, line-or-other, named-row, row_named}

@@ -4,7 +4,7 @@ use mathlib.Core.Path.{◌≡◌, sym, ◌∙◌}
 use mathlib.Core.List.{List}
 use denote.Ref.{Bor}
 use Rattle.judge.specs.Part.{LiesAt}
-use Rattle.find.specs.declared.Found.{Found}
+use Rattle.find.specs.Answers.{Found}
 use Rattle.find.specs.Line.{found_in}
 use Rattle.find.specs.Part.{part_start, part_of}
 

@@ -14,10 +14,10 @@ use Rattle.order.specs.declared.Stage.{Stage}
 use Rattle.order.specs.Stages.{stage_at, at_start}
 use Rattle.order.specs.Order.{next_stage}
 use Rattle.rules.specs.Step.{next_deleghe}
-use Rattle.judge.specs.declared.Verdict.TheVariants.{Accepted, Refused}
+use Rattle.judge.specs.Refusal.{Accepted, Refused}
 use Rattle.judge.specs.Flow.{chunks, records_of, rest_of, judged}
 use Rattle.judge.proofs.Records.{chunks-on}
-use Rattle.find.specs.declared.Found.TheVariants as Answer
+use Rattle.find.specs.Answers as Answer
 use Rattle.find.specs.Line.{is_line, line_from, line_of, or_absent, found_in}
 use Rattle.find.proofs.Subtypes.{Other}
 

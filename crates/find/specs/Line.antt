@@ -1,20 +1,22 @@
 -- Believed. "A line is named by delega number, line subtype and its place in the section, counted from 1."
-use Rattle.std.specs.Prelude.{ℕ, ◌+◌, Bool, false, cond, List, [], ◌∷◌, eqb}
+use Rattle.std.specs.Prelude.{ℕ, ◌+◌, Bool, false, cond, List, [], ◌∷◌, eqb, Err}
 use Rattle.layout.specs.declared.Kind.{Kind}
 use Rattle.layout.specs.Kinds.{of_line, section_kind, kind_in}
 use Rattle.order.specs.declared.Stage.{Stage}
 use Rattle.order.specs.Stages.{stage_at, at_start}
 use Rattle.order.specs.Order.{next_stage}
 use Rattle.rules.specs.Step.{next_deleghe}
-use Rattle.judge.specs.Refusal.{Refusal, refusal, no_refusal, judged_first}
+use Rattle.refusal.specs.declared.Refusal.{Refusal}
+use Rattle.refusal.specs.Refusals.{refusal, no_refusal}
+use Rattle.judge.specs.Refusal.{judged_first}
 use Rattle.judge.specs.Flow.{records_of, judged}
-use Rattle.find.specs.declared.Found.{Found}
-use Rattle.find.specs.declared.Found.TheVariants as Answer
+use Rattle.find.specs.Answers.{Found}
+use Rattle.find.specs.Answers as Answer
 
 -- the refusal of an answer; a line that is found has none
 abbrev pub refusal_found : Found → Refusal
 refusal_found (Answer.At k) = no_refusal
-refusal_found (Answer.Refused n r p) = refusal n r p
+refusal_found (Err why) = refusal why.number why.«record» why.position
 
 -- a record of this kind, at this stage of delega e, is the n-th line of section s in delega d
 abbrev pub is_line : ℕ → ℕ → ℕ → Stage → ℕ → Kind → Bool

@@ -1,4 +1,5 @@
 -- A flow is accepted exactly when it is sound: whole records, none with a fault, the last of them EF.
+use Rattle.std.specs.Prelude.{Err}
 use Prim.Native.Nat.{ℕ, ◌+◌, ◌%◌}
 use mathlib.Core.Path.{◌≡◌, refl, sym, ap, ◌∙◌}
 use mathlib.Core.Bool.{Bool, true, false, cond, false≢true}
@@ -15,8 +16,7 @@ use Rattle.layout.specs.declared.Kind.TheVariants.{Head, Taxpayer, Domicile, Lin
 use Rattle.layout.specs.Kinds.{same, type_of, type_in, kind_in}
 use Rattle.layout.specs.Fields.{delega_number, fields_of, value_of}
 use Rattle.order.specs.declared.Stage.{Stage}
-use Rattle.amounts.specs.declared.Outcome.{Outcome}
-use Rattle.amounts.specs.declared.Outcome.TheVariants.{Pass, Fault}
+use Rattle.refusal.specs.Outcomes.{Outcome, Pass, Fails}
 use Rattle.rules.specs.declared.State.{State}
 use Rattle.rules.specs.State.{start_state}
 use Rattle.order.specs.Stages.{at_start, after_tail}
@@ -26,7 +26,7 @@ use Rattle.rules.specs.Stored.{stored_of, wrong}
 use Rattle.rules.specs.Checks.{char_fault, bad_fields, carried, number_fault, own_fault, fault}
 use Rattle.order.specs.Order.{next_stage}
 use Rattle.rules.specs.Step.{next}
-use Rattle.judge.specs.declared.Verdict.TheVariants.{Accepted}
+use Rattle.judge.specs.Refusal.{Accepted}
 use Rattle.judge.specs.declared.Judgement.{Judgement}
 use Rattle.judge.specs.Flow.{refused_with, accepted_with, closing, after, judged_from, records_of, head_name_of, judged}
 use Rattle.amounts.proofs.Outcomes.{first-pass, five-pass}
@@ -43,7 +43,7 @@ pub stands_of : (p : Stage) (t : RecordType) (k : Kind) → standing p t k ≡ P
 unfolding standing
 stands_of p t k e = go (stands p k) (type_stands p t) _ e
   where
-    go : (a b : Bool) (o : Outcome) → cond a o (cond b (Fault 4 11) (Fault 4 2)) ≡ Pass → a ≡ true
+    go : (a b : Bool) (o : Outcome) → cond a o (cond b (Fails 4 11) (Fails 4 2)) ≡ Pass → a ≡ true
     go true b o e = refl
     go false true o e = cc
     go false false o e = cc
@@ -79,7 +79,7 @@ pub carried-number : (d v : ℕ) → carried d v ≡ Pass → v ≡ d
 unfolding carried
 carried-number d v e = go (eqb v d) refl e
   where
-    go : (b : Bool) → eqb v d ≡ b → cond b Pass (Fault 8 4) ≡ Pass → v ≡ d
+    go : (b : Bool) → eqb v d ≡ b → cond b Pass (Fails 8 4) ≡ Pass → v ≡ d
     go true q f = eqb-true v d q
     go false q f = let z : ◌≡◌ {A = ℕ} 0 1 = cc in absurd (omega arith)
 
@@ -91,7 +91,7 @@ no-fault-closing name st (r ∷ rs) h = rw h.0 (no-fault-closing name (next st r
 
 after-accepts : (o : Outcome) (n : ℕ) (j : Judgement) → (after o n j).verdict ≡ Accepted → (o ≡ Pass) × (j.verdict ≡ Accepted)
 after-accepts Pass n j e = (refl, e)
-after-accepts (Fault x p) n j e = (cc, cc)
+after-accepts (Err why) n j e = (cc, cc)
 
 accepted-passes : (name : List ℕ) (st : State) (rs : List (List ℕ)) → (judged_from name st rs).verdict ≡ Accepted → NoFault name st rs
 unfolding judged_from

@@ -1,14 +1,12 @@
 -- The fault of a record is the first failed one of its single checks, and none with a smaller number fails.
+use Rattle.std.specs.Prelude.{Err}
 use Prim.Native.Nat.{ℕ, ◌≤◌, ◌<◌}
 use mathlib.Core.Path.{◌≡◌, refl, sym, ap, ◌∙◌}
 use mathlib.Core.Bool.{Bool, true, false, cond}
 use mathlib.Core.List.{List, [], ◌∷◌, ◌++◌, map}
 use native.Mathlib.Omega.{arith}
 use lib.Dec.{eqb, ltb}
-use Rattle.text.specs.declared.Characters.{Characters}
-use Rattle.text.specs.declared.Characters.TheVariants.{Allowed, BadAt}
-use Rattle.text.specs.declared.Digits.{Digits}
-use Rattle.text.specs.declared.Digits.TheVariants.{Number, NonDigit, TooLong}
+use Rattle.text.specs.Answers.{Characters, Allowed, BadAt, Digits, Number, NonDigit, TooLong}
 use Rattle.text.specs.Characters.{first_bad}
 use Rattle.text.specs.Numbers.{number_of}
 use Rattle.layout.specs.declared.Field.{Field}
@@ -20,8 +18,8 @@ use Rattle.layout.specs.Kinds.{type_in, kind_in}
 use Rattle.layout.specs.Fields.{amount_at, creation_date, delega_number, tax_code, fields_of, support_name, bytes_of, value_of}
 use Rattle.amounts.specs.declared.Sums.{Sums}
 use Rattle.order.specs.declared.Stage.{Stage}
-use Rattle.amounts.specs.declared.Outcome.{Outcome}
-use Rattle.amounts.specs.declared.Outcome.TheVariants.{Pass, Fault}
+use Rattle.refusal.proofs.Parts.{fails-parts}
+use Rattle.refusal.specs.Outcomes.{Outcome, Pass, Fails}
 use Rattle.rules.specs.declared.State.{State}
 use Rattle.amounts.specs.Outcomes.{first, first_of}
 use Rattle.order.specs.Order.{stands, full, type_stands, standing}
@@ -39,7 +37,7 @@ standing-first : (p : Stage) (t : RecordType) (k : Kind) → standing p t k ≡ 
 unfolding standing
 standing-first p t k = go (stands p k) (type_stands p t) (full p k)
   where
-    go : (a b c : Bool) → cond a (cond c (Fault 6 11) Pass) (cond b (Fault 4 11) (Fault 4 2)) ≡ first (cond a Pass (cond b (Fault 4 11) (Fault 4 2))) (cond c (Fault 6 11) Pass)
+    go : (a b c : Bool) → cond a (cond c (Fails 6 11) Pass) (cond b (Fails 4 11) (Fails 4 2)) ≡ first (cond a Pass (cond b (Fails 4 11) (Fails 4 2))) (cond c (Fails 6 11) Pass)
     go true b c = refl
     go false true c = refl
     go false false c = refl
@@ -78,7 +76,7 @@ fault-is-first name st r =
 -- a check whose only fault has number n
 pub data Only (n : ℕ) : Outcome → Type 0 where
   passed : Only n Pass
-  failed : {p : ℕ} → Only n (Fault n p)
+  failed : {p : ℕ} → Only n (Fails n p)
 
 pub only-cond : {n : ℕ} {x y : Outcome} (b : Bool) → Only n x → Only n y → Only n (cond b x y)
 only-cond true p q = p
@@ -86,26 +84,26 @@ only-cond false p q = q
 
 -- a check that never has number n; where the first of two faults has it, it is the other's
 abbrev pub Never : ℕ → Outcome → Type 0
-Never n o = (q : ℕ) → o ≡ Fault n q → ⊥
+Never n o = (q : ℕ) → o ≡ Fails n q → ⊥
 
 pub never : {m n : ℕ} {o : Outcome} → Only m o → (m ≡ n → ⊥) → Never n o
 never passed d q e = let z : ◌≡◌ {A = ℕ} 0 1 = cc in omega arith
-never failed d q e = d cc
+never failed d q e = d (fails-parts e).0
 
-pub other-fault : (o : Outcome) {x : Outcome} {n q : ℕ} → Never n o → first o x ≡ Fault n q → (o ≡ Pass) × (x ≡ Fault n q)
+pub other-fault : (o : Outcome) {x : Outcome} {n q : ℕ} → Never n o → first o x ≡ Fails n q → (o ≡ Pass) × (x ≡ Fails n q)
 other-fault Pass n e = (refl, e)
-other-fault (Fault m u) {q = q} n e = absurd (n q e)
+other-fault (Err why) {q = q} n e = absurd (n q e)
 
 -- 4 and 6 are all that the order has
-pub order-number : (p : Stage) (t : RecordType) (k : Kind) {n q : ℕ} → standing p t k ≡ Fault n q → n ≤ 6
+pub order-number : (p : Stage) (t : RecordType) (k : Kind) {n q : ℕ} → standing p t k ≡ Fails n q → n ≤ 6
 unfolding standing
 order-number p t k {n} {q} e = go (stands p k) (full p k) (type_stands p t) e
   where
-    go : (a b c : Bool) → cond a (cond b (Fault 6 11) Pass) (cond c (Fault 4 11) (Fault 4 2)) ≡ Fault n q → n ≤ 6
-    go true true c e = let z : ◌≡◌ {A = ℕ} 6 n = cc in omega arith
+    go : (a b c : Bool) → cond a (cond b (Fails 6 11) Pass) (cond c (Fails 4 11) (Fails 4 2)) ≡ Fails n q → n ≤ 6
+    go true true c e = let z : ◌≡◌ {A = ℕ} 6 n = (fails-parts e).0 in omega arith
     go true false c e = let z : ◌≡◌ {A = ℕ} 0 1 = cc in absurd (omega arith)
-    go false b true e = let z : ◌≡◌ {A = ℕ} 4 n = cc in omega arith
-    go false b false e = let z : ◌≡◌ {A = ℕ} 4 n = cc in omega arith
+    go false b true e = let z : ◌≡◌ {A = ℕ} 4 n = (fails-parts e).0 in omega arith
+    go false b false e = let z : ◌≡◌ {A = ℕ} 4 n = (fails-parts e).0 in omega arith
 
 -- checks whose numbers, none of which is 5 or above 20 but for 26, rise from lo on
 abbrev Rising : ℕ → List Outcome → Type 0
@@ -224,7 +222,7 @@ at_least : {m n : ℕ} {o : Outcome} → m ≤ n → Only n o → AtLeast m o
 at_least h passed = tt
 at_least h failed = h
 
-pub only-number : {m n p : ℕ} → Only n (Fault m p) → m ≡ n
+pub only-number : {m n p : ℕ} → Only n (Fails m p) → m ≡ n
 only-number failed = refl
 
 least : (m lo : ℕ) (os : List Outcome) → Rising lo os → m ≤ lo → AllAtLeast m os
@@ -237,21 +235,21 @@ pub record Numbered (lo n : ℕ) : Type 0 where
   pub most : 20 < n → n ≡ 26
   pub not_five : n ≡ 5 → ⊥
 
-rising-first : (lo : ℕ) (os : List Outcome) {n p : ℕ} → Rising lo os → first_of os ≡ Fault n p → AllAtLeast n os × Numbered lo n
+rising-first : (lo : ℕ) (os : List Outcome) {n p : ℕ} → Rising lo os → first_of os ≡ Fails n p → AllAtLeast n os × Numbered lo n
 rising-first lo [] u e = let z : ◌≡◌ {A = ℕ} 0 1 = cc in absurd (omega arith)
 rising-first lo (Pass ∷ os) {n} u e =
     let a = rising-first u.0 os u.3 (sym (first_of-cons Pass os) ∙ e) in
     let i : u.0 ≤ n = a.1.least in
     ((tt, a.0), record { least = omega arith; most = a.1.most; not_five = a.1.not_five })
-rising-first lo (Fault m q ∷ os) {n} u e =
-    let f = sym (first_of-cons (Fault m q) os) ∙ e in
-    let i : m ≡ n = cc in
+rising-first lo (Err why ∷ os) {n} u e =
+    let f = sym (first_of-cons (Err why) os) ∙ e in
+    let i : why.number ≡ n = (fails-parts f).0 in
     let j = only-number u.2 in
     ((omega arith, least n u.0 os u.3 (omega arith)), record { least = omega arith; most = λ k. let x = u.1.1 (omega arith) in omega arith; not_five = λ k. u.1.2 (omega arith) })
 
 -- behind the numeric fields only the checks from 8 on are left
 pub rest-number : (name : List ℕ) (st : State) (r : List ℕ) {n p : ℕ} →
-    first (number_fault st.deleghe (kind_in r) (value_of r delega_number)) (first (own_fault name st (kind_in r) r) (wrong (stored_of st (kind_in r)) r)) ≡ Fault n p → 8 ≤ n
+    first (number_fault st.deleghe (kind_in r) (value_of r delega_number)) (first (own_fault name st (kind_in r) r) (wrong (stored_of st (kind_in r)) r)) ≡ Fails n p → 8 ≤ n
 rest-number name st r e =
     let k = kind_in r in
     let own = own_checks name st k r in
@@ -260,7 +258,7 @@ rest-number name st r e =
     let f = first_of-cons number (own ++ stored) ∙ ap (first number) (first_of-append own stored ∙ ap (first (first_of own)) (sym (stored-first (stored_of st k) r))) in
     (rising-first 8 (number ∷ (own ++ stored)) (8, omega arith, number-only st.deleghe k (value_of r delega_number), rest-rising name st k r) (f ∙ e)).1.least
 
-module _ (name : List ℕ) (st : State) (r : List ℕ) {n p : ℕ} (e : fault name st r ≡ Fault n p) where
+module _ (name : List ℕ) (st : State) (r : List ℕ) {n p : ℕ} (e : fault name st r ≡ Fails n p) where
   smallest : AllAtLeast n (checks_of name st r) × Numbered 3 n
   smallest = rising-first 3 (checks_of name st r) (checks-rising name st r) (sym (fault-is-first name st r) ∙ e)
 

@@ -1,19 +1,20 @@
 -- The taxpayers' codes: in an accepted flow each can exist, and 26 is told where one cannot, at its record and 11, and nowhere else.
 use Prim.Native.Nat.{ℕ, zero, suc, ◌+◌}
-use mathlib.Core.Path.{◌≡◌, refl}
+use mathlib.Core.Path.{◌≡◌, refl, sym}
 use mathlib.Core.Bool.{Bool, true, false, cond}
 use mathlib.Core.List.{List, [], ◌∷◌}
 use mathlib.Core.Logic.{◌↔◌}
 use native.Mathlib.Omega.{arith}
 use borrow.Author.Tests.{eq-eqb}
 use lib.ListN.{get_or, take, drop}
-use Rattle.text.specs.declared.Characters.TheVariants.{Allowed}
+use Rattle.text.specs.Answers.{Allowed}
 use Rattle.text.specs.Characters.{first_bad}
 use Rattle.layout.specs.declared.RecordType.TheVariants.{T10}
 use Rattle.layout.specs.declared.Kind.TheVariants.{Taxpayer}
 use Rattle.layout.specs.Kinds.{same, type_of, type_in, kind_in}
 use Rattle.layout.specs.Fields.{delega_number, fields_of, value_of}
-use Rattle.amounts.specs.declared.Outcome.TheVariants.{Pass, Fault}
+use Rattle.refusal.proofs.Parts.{fails-parts}
+use Rattle.refusal.specs.Outcomes.{Pass, Fails}
 use Rattle.amounts.specs.Outcomes.{first}
 use Rattle.taxcode.specs.TaxCodes.{code_right}
 use Rattle.order.specs.Order.{stands, full, standing}
@@ -22,8 +23,8 @@ use Rattle.rules.specs.State.{start_state}
 use Rattle.rules.specs.Stored.{stored_of, wrong}
 use Rattle.rules.specs.Checks.{bad_fields, carried, number_fault, code_fault, own_fault, fault}
 use Rattle.rules.specs.Step.{next}
-use Rattle.judge.specs.declared.Verdict.TheVariants.{Accepted}
-use Rattle.judge.specs.Refusal.{refusal, refusal_of}
+use Rattle.judge.specs.Refusal.{Accepted, refusal_of}
+use Rattle.refusal.specs.Refusals.{refusal}
 use Rattle.judge.specs.Flow.{records_of, head_name_of, judged}
 use Rattle.judge.specs.Part.{record_at}
 use Rattle.judge.specs.Plain.{state_after, NoFault, NoSuchCode, FirstFault, FaultAt}
@@ -39,13 +40,13 @@ unfolding kind_in
 ten-is-taxpayer r e = rw e
 
 -- what 26 says of a record 10
-pub code-twenty-six : (name : List ℕ) (st : State) (r : List ℕ) {q : ℕ} → first (own_fault name st Taxpayer r) (wrong (stored_of st Taxpayer) r) ≡ Fault 26 q → (q ≡ 11) × (code_right (take 16 (drop 10 r)) ≡ false)
+pub code-twenty-six : (name : List ℕ) (st : State) (r : List ℕ) {q : ℕ} → first (own_fault name st Taxpayer r) (wrong (stored_of st Taxpayer) r) ≡ Fails 26 q → (q ≡ 11) × (code_right (take 16 (drop 10 r)) ≡ false)
 unfolding code_fault
 code-twenty-six name st r {q} e = go (code_right (take 16 (drop 10 r))) refl e
   where
-    go : (b : Bool) → code_right (take 16 (drop 10 r)) ≡ b → first (cond b Pass (Fault 26 11)) Pass ≡ Fault 26 q → (q ≡ 11) × (code_right (take 16 (drop 10 r)) ≡ false)
+    go : (b : Bool) → code_right (take 16 (drop 10 r)) ≡ b → first (cond b Pass (Fails 26 11)) Pass ≡ Fails 26 q → (q ≡ 11) × (code_right (take 16 (drop 10 r)) ≡ false)
     go true c e = let z : ◌≡◌ {A = ℕ} 0 1 = cc in absurd (omega arith)
-    go false c e = (cc, c)
+    go false c e = (sym (fails-parts e).1, c)
 
 code-right-of : (name : List ℕ) (st : State) (r : List ℕ) → own_fault name st Taxpayer r ≡ Pass → code_right (take 16 (drop 10 r)) ≡ true
 unfolding code_fault
@@ -68,7 +69,7 @@ accepted-codes s e (suc i) t = codes-right (head_name_of s) start_state (records
 
 -- a record 10 of which no check before 26 fails is refused for its code
 code-fails : (name : List ℕ) (st : State) (r : List ℕ) → first_bad r ≡ Allowed → type_in r ≡ T10 → stands st.stage Taxpayer ≡ true → bad_fields (fields_of Taxpayer) r ≡ Pass →
-    value_of r delega_number ≡ st.deleghe + 1 → code_right (take 16 (drop 10 r)) ≡ false → fault name st r ≡ Fault 26 11
+    value_of r delega_number ≡ st.deleghe + 1 → code_right (take 16 (drop 10 r)) ≡ false → fault name st r ≡ Fails 26 11
 unfolding fault standing full number_fault carried code_fault
 code-fails name st r a t o d n c = rw (a, ten-is-taxpayer r t, o, d, eq-eqb _ _ n, c)
 

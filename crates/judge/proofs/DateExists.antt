@@ -11,7 +11,8 @@ use Rattle.layout.specs.declared.Kind.{Kind}
 use Rattle.layout.specs.declared.Kind.TheVariants.{Head, Taxpayer, Domicile, Line, Balance, Payment, Receipt, Addressee, Tail, Unknown}
 use Rattle.layout.specs.Kinds.{kind_in}
 use Rattle.layout.specs.Fields.{creation_date, support_name, fields_of, bytes_of, value_of}
-use Rattle.amounts.specs.declared.Outcome.TheVariants.{Pass, Fault}
+use Rattle.refusal.proofs.Parts.{fails-parts}
+use Rattle.refusal.specs.Outcomes.{Pass, Fails}
 use Rattle.amounts.specs.Outcomes.{first}
 use Rattle.amounts.specs.Dates.{date_right}
 use Rattle.amounts.specs.Names.{name_right}
@@ -24,8 +25,8 @@ use Rattle.rules.specs.Stored.{stored_of, wrong}
 use Rattle.rules.specs.Checks.{bad_fields, number_fault, head_name, date_fault, own_fault, fault}
 use Rattle.rules.specs.Step.{next}
 use Rattle.amounts.proofs.Outcomes.{first-pass}
-use Rattle.judge.specs.declared.Verdict.TheVariants.{Accepted}
-use Rattle.judge.specs.Refusal.{refusal, refusal_of}
+use Rattle.judge.specs.Refusal.{Accepted, refusal_of}
+use Rattle.refusal.specs.Refusals.{refusal}
 use Rattle.judge.specs.Flow.{records_of, head_name_of, judged}
 use Rattle.judge.specs.Part.{record_at}
 use Rattle.judge.specs.Plain.{state_after, NoFault, Whole, NoSuchDay, FirstFault, FaultAt}
@@ -36,16 +37,16 @@ use Rattle.judge.proofs.FirstFault.{record-fault, refused-exactly}
 use Rattle.judge.proofs.OwnNumbers.{fault-behind, seventeen-is-head}
 
 -- what 17 says of a head
-head-seventeen : (name : List ℕ) (st : State) (r : List ℕ) {q : ℕ} → first (own_fault name st Head r) (wrong (stored_of st Head) r) ≡ Fault 17 q →
+head-seventeen : (name : List ℕ) (st : State) (r : List ℕ) {q : ℕ} → first (own_fault name st Head r) (wrong (stored_of st Head) r) ≡ Fails 17 q →
     (q ≡ 14) × (name_right (bytes_of r support_name) ≡ true) × (date_right (value_of r creation_date) ≡ false)
 unfolding head_name date_fault
 head-seventeen name st r {q} e = go (name_right (bytes_of r support_name)) (date_right (value_of r creation_date)) refl refl e
   where
-    go : (a b : Bool) → name_right (bytes_of r support_name) ≡ a → date_right (value_of r creation_date) ≡ b → first (first (cond a Pass (Fault 16 20)) (cond b Pass (Fault 17 14))) Pass ≡ Fault 17 q →
+    go : (a b : Bool) → name_right (bytes_of r support_name) ≡ a → date_right (value_of r creation_date) ≡ b → first (first (cond a Pass (Fails 16 20)) (cond b Pass (Fails 17 14))) Pass ≡ Fails 17 q →
         (q ≡ 14) × (name_right (bytes_of r support_name) ≡ true) × (date_right (value_of r creation_date) ≡ false)
     go true true n d e = let z : ◌≡◌ {A = ℕ} 0 1 = cc in absurd (omega arith)
-    go true false n d e = (cc, n, d)
-    go false b n d e = let z : ◌≡◌ {A = ℕ} 16 17 = cc in absurd (omega arith)
+    go true false n d e = (sym (fails-parts e).1, n, d)
+    go false b n d e = let z : ◌≡◌ {A = ℕ} 16 17 = (fails-parts e).0 in absurd (omega arith)
 
 -- behind a record that passed, no stage is the start again
 stage-left : (p : Stage) (k : Kind) → stands p k ≡ true → (next_stage p k).phase ≡ at_start → ⊥
@@ -83,7 +84,7 @@ first-record s w =
     let b = w.even in
     rw (record-number s 1 (omega arith)) (front (records_of s) (omega arith))
 
-head-fails : (s : List ℕ) → NoSuchDay s → fault (head_name_of s) start_state (record_at s 1) ≡ Fault 17 14
+head-fails : (s : List ℕ) → NoSuchDay s → fault (head_name_of s) start_state (record_at s 1) ≡ Fails 17 14
 unfolding fault standing stands full start_state number_fault head_name date_fault
 head-fails s d = rw (d.characters, d.head, d.digits, d.name, d.day)
 

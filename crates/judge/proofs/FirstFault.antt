@@ -1,6 +1,7 @@
 -- A flow is accepted exactly when it is sound, and else refused for exactly one of five reasons: its length, its first fault, or a missing EF.
+use Rattle.std.specs.Prelude.{Err}
 use Prim.Native.Nat.{ℕ, suc, ◌+◌, ◌%◌, ◌≤◌, ◌<◌}
-use mathlib.Core.Path.{◌≡◌, refl, sym, ap, ◌∙◌}
+use mathlib.Core.Path.{◌≡◌, refl, sym, ap, ap₂, ◌∙◌}
 use mathlib.Core.Bool.{Bool, true, false, cond}
 use mathlib.Core.List.{List, [], ◌∷◌, ◌++◌}
 use mathlib.Core.Logic.{◌⊎◌, inl, inr, ◌↔◌}
@@ -8,17 +9,17 @@ use native.Mathlib.Omega.{arith}
 use borrow.Author.Tests.{ltb-true, ltb-false, eqb-true, eqb-false, ne_eqb}
 use lib.Dec.{eqb, ltb}
 use lib.ListN.{length}
-use Rattle.amounts.specs.declared.Outcome.{Outcome}
-use Rattle.amounts.specs.declared.Outcome.TheVariants.{Pass, Fault}
+use Rattle.refusal.proofs.Parts.{refused-parts}
+use Rattle.refusal.specs.Outcomes.{Outcome, Pass, Fails}
 use Rattle.rules.specs.declared.State.{State}
 use Rattle.rules.specs.State.{start_state}
 use Rattle.order.specs.Stages.{after_tail}
 use Rattle.rules.specs.Checks.{fault}
 use Rattle.rules.specs.Step.{next}
-use Rattle.judge.specs.declared.Verdict.{Verdict}
-use Rattle.judge.specs.declared.Verdict.TheVariants.{Accepted, Refused}
+use Rattle.judge.specs.Refusal.{Verdict, Accepted, Refused, refusal_of}
 use Rattle.judge.specs.declared.Judgement.{Judgement}
-use Rattle.judge.specs.Refusal.{Refusal, refusal, no_refusal, refusal_of}
+use Rattle.refusal.specs.declared.Refusal.{Refusal}
+use Rattle.refusal.specs.Refusals.{refusal, no_refusal}
 use Rattle.judge.specs.Flow.{refused_with, accepted_with, closing, after, judged_from, records_of, head_name_of, judged}
 use Rattle.judge.specs.Plain.{state_after, NoFault, Whole, Sound, FirstFault, RefusedFor, LongFlow, NoBytes, RaggedFlow, FaultAt, NoTail}
 use Rattle.judge.proofs.Turn.{judged-long, judged-empty, judged-ragged}
@@ -57,7 +58,7 @@ module _ (name : List ℕ) (n r p : ℕ) where
     where
       go : (o : Outcome) → fault name st x ≡ o → (after o st.seen (judged_from name (next st x) rs)).verdict ≡ Refused n r p → ((judged_from name (next st x) rs).verdict ≡ Refused n r p → Told (next st x) rs) → Told st (x ∷ rs)
       go Pass q f g = told-on st x rs q (g f)
-      go (Fault m u) q f g = inr (1, cc, record { before = []; here = x; behind = rs; split = refl; counted = refl; passes = tt; fails = cc })
+      go (Err why) q f g = let same = refused-parts f in inr (1, sym same.1, record { before = []; here = x; behind = rs; split = refl; counted = refl; passes = tt; fails = q ∙ ap₂ Fails same.0 same.2 })
 
 -- at the end only 5 is told, where the phase is not that after EF
 closing-refuses : (st : State) {n r p : ℕ} → (closing st).verdict ≡ Refused n r p → (n ≡ 5) × (r ≡ st.seen + 1) × (p ≡ 0) × (st.stage.phase ≡ after_tail → ⊥)
@@ -66,10 +67,10 @@ closing-refuses st {n} {r} {p} e = go (eqb st.stage.phase after_tail) refl e
   where
     go : (b : Bool) → eqb st.stage.phase after_tail ≡ b → (cond b (accepted_with st) (refused_with 5 (st.seen + 1) 0)).verdict ≡ Refused n r p → (n ≡ 5) × (r ≡ st.seen + 1) × (p ≡ 0) × (st.stage.phase ≡ after_tail → ⊥)
     go true q f = let z : ◌≡◌ {A = ℕ} 0 1 = cc in absurd (omega arith)
-    go false q f = (cc, cc, cc, eqb-false _ _ q)
+    go false q f = let same = refused-parts f in (sym same.0, sym same.1, sym same.2, eqb-false _ _ q)
 
 -- where a record fails behind records that pass, the judgement tells of it
-fault-told : (name : List ℕ) (st : State) (before : List (List ℕ)) (here : List ℕ) (behind : List (List ℕ)) {n p : ℕ} → NoFault name st before → fault name (state_after st before) here ≡ Fault n p →
+fault-told : (name : List ℕ) (st : State) (before : List (List ℕ)) (here : List ℕ) (behind : List (List ℕ)) {n p : ℕ} → NoFault name st before → fault name (state_after st before) here ≡ Fails n p →
     judged_from name st (before ++ (here ∷ behind)) ≡ refused_with n (st.seen + (length before + 1)) p
 unfolding judged_from state_after next
 fault-told name st [] here behind h e = rw e
@@ -114,7 +115,7 @@ refused-for s x e z = by_size (sized s)
   where
     by-verdict : (v : Verdict) → (judged s).verdict ≡ v → Whole s → RefusedFor s x
     by-verdict Accepted q w = absurd (z (ap (λ (y : Refusal). y.number) (sym e ∙ ap refusal_of q)))
-    by-verdict (Refused n r p) q w = rw (sym e ∙ ap refusal_of q) (whole-refused s w n r p q)
+    by-verdict (Err why) q w = rw (sym e ∙ ap refusal_of q) (whole-refused s w why.number why.«record» why.position q)
 
     by_size : Sized s → RefusedFor s x
     by_size (long h) = LongFlow h (sym e ∙ ap told_of (judged-long s h))
@@ -173,8 +174,8 @@ accepted-has-none s = (λ e. go (judged s).verdict refl e, λ e. ap refusal_of e
   where
     go : (v : Verdict) → (judged s).verdict ≡ v → refusal_of (judged s).verdict ≡ no_refusal → (judged s).verdict ≡ Accepted
     go Accepted q e = q
-    go (Refused n r p) q e =
-        let z : n ≡ 0 = ap (λ (y : Refusal). y.number) (sym (ap refusal_of q) ∙ e) in
+    go (Err why) q e =
+        let z : why.number ≡ 0 = ap (λ (y : Refusal). y.number) (sym (ap refusal_of q) ∙ e) in
         let k = judgement-number s q in
         absurd (omega arith)
 

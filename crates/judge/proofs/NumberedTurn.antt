@@ -7,12 +7,10 @@ use native.Mathlib.Omega.{arith}
 use borrow.Author.Tests.{ne_eqb}
 use lib.ListN.{length, take, drop, get_or, replicate}
 use lib.Seq.{drop-cons}
-use Rattle.text.specs.declared.Digits.{Digits}
-use Rattle.text.specs.declared.Digits.TheVariants.{Number, NonDigit, TooLong}
-use Rattle.text.specs.declared.Characters.TheVariants.{Allowed}
+use Rattle.text.specs.Answers.{Digits, Number, NonDigit, TooLong, Allowed}
 use Rattle.text.specs.Characters.{first_bad}
 use Rattle.text.specs.Numbers.{number_of, amount_of, digits_of}
-use Rattle.words.specs.declared.Fifteen.TheVariants as Said
+use Rattle.words.specs.Answers as Said
 use Rattle.words.specs.Words.{word, fifteen_of}
 use Rattle.words.proofs.NumberWords.{same_number, other-number}
 use Rattle.layout.specs.declared.Field.{Field}
@@ -22,8 +20,7 @@ use Rattle.layout.specs.Kinds.{kind_in, numbered}
 use Rattle.layout.specs.Fields.{nowhere, delega_number, fields_of, bytes_of, value_of}
 use Rattle.layout.proofs.Amounts.{behind, number-first}
 use Rattle.layout.proofs.Spelled.{zero-behind}
-use Rattle.amounts.specs.declared.Outcome.{Outcome}
-use Rattle.amounts.specs.declared.Outcome.TheVariants.{Pass, Fault}
+use Rattle.refusal.specs.Outcomes.{Outcome, Pass, Fails}
 use Rattle.rules.specs.Checks.{or_bad, bad_fields, carried, number_fault}
 use Rattle.rules.specs.Step.{next_deleghe}
 use Rattle.rules.specs.Values.{values_in}
@@ -78,7 +75,7 @@ module _ (r : List ℕ) (n : numbered (kind_in r) ≡ true) where
     number_same e = same_number r 2 d ok (omega arith) small e
 
     -- a number that is another one, or none
-    pub number-other : (e : ℕ) → d ≡ next_deleghe e (kind_in r) → (word (take 8 (drop 2 r)) ≡ word (digits_of 8 d) → ⊥) → bad_fields (fields_of (kind_in r)) r ≡ Pass → number_fault e (kind_in r) (value_of r delega_number) ≡ Fault 8 4
+    pub number-other : (e : ℕ) → d ≡ next_deleghe e (kind_in r) → (word (take 8 (drop 2 r)) ≡ word (digits_of 8 d) → ⊥) → bad_fields (fields_of (kind_in r)) r ≡ Pass → number_fault e (kind_in r) (value_of r delega_number) ≡ Fails 8 4
     unfolding carried
     number-other e ed differs g =
         let v = (or-passes (number_of (bytes_of r delega_number)) delega_number (bad_fields (behind (kind_in r)) r) (sym number-then ∙ g)).1 in

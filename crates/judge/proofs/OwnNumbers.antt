@@ -5,7 +5,7 @@ use mathlib.Core.Bool.{Bool, true, false, cond, false≢true}
 use mathlib.Core.List.{List, [], ◌∷◌}
 use native.Mathlib.Omega.{arith}
 use lib.Dec.{eqb, ltb}
-use Rattle.text.specs.declared.Characters.TheVariants.{Allowed}
+use Rattle.text.specs.Answers.{Allowed}
 use Rattle.text.specs.Among.{among}
 use Rattle.text.specs.Characters.{first_bad}
 use Rattle.text.specs.Numbers.{number_of}
@@ -15,8 +15,7 @@ use Rattle.layout.specs.declared.Kind.TheVariants.{Head, Taxpayer, Domicile, Lin
 use Rattle.layout.specs.Sections.{section_at}
 use Rattle.layout.specs.Kinds.{type_in, kind_in}
 use Rattle.layout.specs.Fields.{creation_date, delega_number, tax_code, support_name, fields_of, bytes_of, value_of}
-use Rattle.amounts.specs.declared.Outcome.{Outcome}
-use Rattle.amounts.specs.declared.Outcome.TheVariants.{Pass, Fault}
+use Rattle.refusal.specs.Outcomes.{Outcome, Pass, Fails}
 use Rattle.amounts.specs.Outcomes.{first}
 use Rattle.amounts.specs.Amounts.{line_right, line_fault}
 use Rattle.amounts.specs.Dates.{date_right}
@@ -31,9 +30,9 @@ use Rattle.judge.proofs.ChecksInOrder.{Only, passed, char-only, field-only, allo
 -- an outcome passes, or has one of these numbers
 pub data In (ns : List ℕ) : Outcome → Type 0 where
   none : In ns Pass
-  has : {n p : ℕ} → among n ns ≡ true → In ns (Fault n p)
+  has : {n p : ℕ} → among n ns ≡ true → In ns (Fails n p)
 
-pub in-fault : {ns : List ℕ} {n p : ℕ} → In ns (Fault n p) → among n ns ≡ true
+pub in-fault : {ns : List ℕ} {n p : ℕ} → In ns (Fails n p) → among n ns ≡ true
 in-fault (has h) = h
 
 pub in-cond : {ns : List ℕ} (b : Bool) {x y : Outcome} → In ns x → In ns y → In ns (cond b x y)
@@ -118,10 +117,10 @@ whose Unknown = (λ e. absurd (false≢true e), λ e. absurd (false≢true e))
 
 -- so a record with 17 is a head, and one with 26 a record 10
 module _ (name : List ℕ) (st : State) (k : Kind) (r : List ℕ) {q : ℕ} where
-  pub seventeen-is-head : first (own_fault name st k r) (wrong (stored_of st k) r) ≡ Fault 17 q → k ≡ Head
+  pub seventeen-is-head : first (own_fault name st k r) (wrong (stored_of st k) r) ≡ Fails 17 q → k ≡ Head
   seventeen-is-head e = (whose k).0 (in-fault (rw e at (rest_in name st k r)))
 
-  pub twenty-six-is-taxpayer : first (own_fault name st k r) (wrong (stored_of st k) r) ≡ Fault 26 q → k ≡ Taxpayer
+  pub twenty-six-is-taxpayer : first (own_fault name st k r) (wrong (stored_of st k) r) ≡ Fails 26 q → k ≡ Taxpayer
   twenty-six-is-taxpayer e = (whose k).1 (in-fault (rw e at (rest_in name st k r)))
 
 -- a fault behind 8 of a record whose fields fl are looked at: the checks up to 8 pass, and it is what stands behind them
@@ -130,7 +129,7 @@ pub record Behind (st : State) (r : List ℕ) (fl : List Field) (x : Outcome) (n
   pub ordered : standing st.stage (type_in r) (kind_in r) ≡ Pass
   pub digits : bad_fields fl r ≡ Pass
   pub numbered : number_fault st.deleghe (kind_in r) (value_of r delega_number) ≡ Pass
-  pub rest : x ≡ Fault n q
+  pub rest : x ≡ Fails n q
 
 fields-only : (fs : List Field) (r : List ℕ) → Only 7 (bad_fields fs r)
 unfolding bad_fields
@@ -138,7 +137,7 @@ fields-only [] r = passed
 fields-only (f ∷ fs) r = field-only (number_of (bytes_of r f)) f (fields-only fs r)
 
 module _ (st : State) (r : List ℕ) (fl : List Field) (x : Outcome) {n q : ℕ} where
-  pub behind-eight : 8 < n → first (char_fault (first_bad r)) (first (standing st.stage (type_in r) (kind_in r)) (first (bad_fields fl r) (first (number_fault st.deleghe (kind_in r) (value_of r delega_number)) x))) ≡ Fault n q →
+  pub behind-eight : 8 < n → first (char_fault (first_bad r)) (first (standing st.stage (type_in r) (kind_in r)) (first (bad_fields fl r) (first (number_fault st.deleghe (kind_in r) (value_of r delega_number)) x))) ≡ Fails n q →
       Behind st r fl x n q
   behind-eight h e =
       let a = other-fault (char_fault (first_bad r)) (never (char-only (first_bad r)) (λ z. omega arith)) e in
@@ -148,6 +147,6 @@ module _ (st : State) (r : List ℕ) (fl : List Field) (x : Outcome) {n q : ℕ}
       record { characters = allowed_of (first_bad r) a.0; ordered = b.0; digits = c.0; numbered = d.0; rest = d.1 }
 
 -- of the judgement
-pub fault-behind : (name : List ℕ) (st : State) (r : List ℕ) {n q : ℕ} → 8 < n → fault name st r ≡ Fault n q → Behind st r (fields_of (kind_in r)) (first (own_fault name st (kind_in r) r) (wrong (stored_of st (kind_in r)) r)) n q
+pub fault-behind : (name : List ℕ) (st : State) (r : List ℕ) {n q : ℕ} → 8 < n → fault name st r ≡ Fails n q → Behind st r (fields_of (kind_in r)) (first (own_fault name st (kind_in r) r) (wrong (stored_of st (kind_in r)) r)) n q
 unfolding fault
 fault-behind name st r h e = behind-eight st r _ _ h e

@@ -15,7 +15,7 @@ use Rattle.layout.specs.Kinds.{of_line, of_payment, kind_in}
 use Rattle.layout.specs.Fields.{final_balance, value_of}
 use Rattle.amounts.specs.declared.Sums.{Sums}
 use Rattle.rules.specs.declared.Money.{Money}
-use Rattle.amounts.specs.declared.Outcome.TheVariants.{Pass, Fault}
+use Rattle.refusal.specs.Outcomes.{Pass, Fails}
 use Rattle.rules.specs.declared.State.{State}
 use Rattle.rules.specs.State.{no_sums, start_state}
 use Rattle.order.specs.Stages.{at_start, after_head, after_taxpayer, after_line, after_balance, after_payment, after_receipt, after_addressee}
@@ -25,7 +25,7 @@ use Rattle.amounts.specs.Amounts.{final_of}
 use Rattle.rules.specs.Stored.{stored_of, wrong}
 use Rattle.rules.specs.Checks.{own_fault, negative_fault}
 use Rattle.rules.specs.Step.{added, added_at, line_sums, next_money, next}
-use Rattle.judge.specs.declared.Verdict.TheVariants.{Accepted}
+use Rattle.judge.specs.Refusal.{Accepted}
 use Rattle.judge.specs.declared.Judgement.{Judgement}
 use Rattle.judge.specs.Flow.{records_of, head_name_of, judged}
 use Rattle.judge.specs.Plain.{sum_over, Side, Debit, Credit, side_of, column_of, lines_in, section_in, finals_in, state_after, NoFault}
@@ -76,11 +76,11 @@ module _ (x : Side) (i : ℕ) (r : List ℕ) where
   section-adds Unknown m h = (refl, omega arith)
 
 -- a 50-01 that passes holds the debits of its delega less the credits, which are not above them
-pub cond-true : (b : Bool) (n p : ℕ) → cond b Pass (Fault n p) ≡ Pass → b ≡ true
+pub cond-true : (b : Bool) (n p : ℕ) → cond b Pass (Fails n p) ≡ Pass → b ≡ true
 cond-true true n p e = refl
 cond-true false n p e = cc
 
-pub cond-false : (b : Bool) (n p : ℕ) → cond b (Fault n p) Pass ≡ Pass → b ≡ false
+pub cond-false : (b : Bool) (n p : ℕ) → cond b (Fails n p) Pass ≡ Pass → b ≡ false
 cond-false true n p e = cc
 cond-false false n p e = refl
 

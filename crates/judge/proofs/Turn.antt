@@ -1,4 +1,5 @@
 -- A turn of the judge: the state that it has come to, and what each of its ways out says of the whole flow.
+use Rattle.std.specs.Prelude.{Err}
 use Prim.Native.Nat.{ℕ, ◌+◌, ◌-◌, ◌*◌, ◌/◌, ◌%◌, ◌<◌, ◌≤◌}
 use mathlib.Core.Path.{◌≡◌, refl, sym, ap, ◌∙◌}
 use mathlib.Core.List.{List, [], ◌∷◌}
@@ -10,8 +11,7 @@ use Rattle.text.specs.Characters.{first_bad}
 use Rattle.layout.specs.declared.Kind.{Kind}
 use Rattle.layout.specs.Kinds.{type_in, kind_in}
 use Rattle.layout.specs.Fields.{fields_of, value_of, delega_number}
-use Rattle.amounts.specs.declared.Outcome.{Outcome}
-use Rattle.amounts.specs.declared.Outcome.TheVariants.{Pass, Fault}
+use Rattle.refusal.specs.Outcomes.{Outcome, Pass, Fails}
 use Rattle.rules.specs.declared.State.{State}
 use Rattle.rules.specs.State.{start_state}
 use Rattle.rules.specs.Bounds.{StateBelow}
@@ -29,21 +29,21 @@ use Rattle.judge.proofs.Records.{chunks-on}
 
 -- the first failed check of a record, by how far the checks have come
 module _ (name : List ℕ) (st : State) (r : List ℕ) where
-  pub fault-chars : {e p : ℕ} → char_fault (first_bad r) ≡ Fault e p → fault name st r ≡ Fault e p
+  pub fault-chars : {e p : ℕ} → char_fault (first_bad r) ≡ Fails e p → fault name st r ≡ Fails e p
   unfolding fault
   fault-chars a = rw a
 
   module _ (k : Kind) (ek : k ≡ kind_in r) (a : char_fault (first_bad r) ≡ Pass) where
-    pub fault-standing : {e p : ℕ} → standing st.stage (type_in r) k ≡ Fault e p → fault name st r ≡ Fault e p
+    pub fault-standing : {e p : ℕ} → standing st.stage (type_in r) k ≡ Fails e p → fault name st r ≡ Fails e p
     unfolding fault
     fault-standing b = rw (a, ← ek, b)
 
     module _ (b : standing st.stage (type_in r) k ≡ Pass) where
-      pub fault-fields : {e p : ℕ} → bad_fields (fields_of k) r ≡ Fault e p → fault name st r ≡ Fault e p
+      pub fault-fields : {e p : ℕ} → bad_fields (fields_of k) r ≡ Fails e p → fault name st r ≡ Fails e p
       unfolding fault
       fault-fields d = rw (a, ← ek, b, d)
 
-      pub fault-number : {e p : ℕ} → bad_fields (fields_of k) r ≡ Pass → number_fault st.deleghe k (value_of r delega_number) ≡ Fault e p → fault name st r ≡ Fault e p
+      pub fault-number : {e p : ℕ} → bad_fields (fields_of k) r ≡ Pass → number_fault st.deleghe k (value_of r delega_number) ≡ Fails e p → fault name st r ≡ Fails e p
       unfolding fault
       fault-number d f = rw (a, ← ek, b, d, f)
 
@@ -63,7 +63,7 @@ judged-ran name st (r ∷ rs) = go (fault name st r) (judged-ran name (next st r
   where
     go : (o : Outcome) → judged_from name (next st r) rs ≡ answer_of (ran name (next st r) rs) → after o st.seen (judged_from name (next st r) rs) ≡ answer_of (stopped o st (ran name (next st r) rs))
     go Pass e = e
-    go (Fault e p) h = refl
+    go (Err why) h = refl
 
 -- the state st is where the run x over the flow's first records has come to: what x is, the rest gives from st
 pub record Going (flow name : List ℕ) (x : Run) (st : State) : Type 0 where
@@ -84,7 +84,7 @@ module _ (flow name : List ℕ) (x : Run) (st : State) (g : Going flow name x st
       ∙ (ap (ran name st) (chunks-on (length flow / 120 - st.seen) (length flow / 120 - (st.seen + 1)) st.seen flow (omega arith))
       ∙ ap (λ (q : List ℕ). stopped (fault name st q) st (ran name (next st q) (rest_of flow (st.seen + 1)))) (sym er))
 
-  pub going-refuses : {e p : ℕ} → fault name st r ≡ Fault e p → x ≡ stands_at (Fault e p) st
+  pub going-refuses : {e p : ℕ} → fault name st r ≡ Fails e p → x ≡ stands_at (Fails e p) st
   going-refuses f = rw f at opened
 
   pub going_on : (k : Kind) → k ≡ kind_in r → length r ≡ 120 → fault name st r ≡ Pass → Going flow name x (next_of st k (pair_of (values_in (fields_of k) r)))

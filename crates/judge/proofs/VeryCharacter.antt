@@ -1,4 +1,5 @@
 -- Refusal 7 names the very character: of the record that it tells, the first in a numeric field that is no digit.
+use Rattle.std.specs.Prelude.{Err}
 use Prim.Native.Nat.{ℕ, suc, ◌+◌, ◌-◌, ◌/◌}
 use mathlib.Core.Path.{◌≡◌, ap, ◌∙◌}
 use mathlib.Core.List.{List, [], ◌∷◌}
@@ -6,8 +7,7 @@ use mathlib.Core.Logic.{◌↔◌}
 use native.Mathlib.Omega.{arith}
 use lib.ListN.{length, get_or, length-append}
 use lib.Seq.{get_or-append_seam}
-use Rattle.text.specs.declared.Characters.{Characters}
-use Rattle.text.specs.declared.Characters.TheVariants.{Allowed}
+use Rattle.text.specs.Answers.{Characters, Allowed}
 use Rattle.text.specs.Characters.{first_bad}
 use Rattle.layout.specs.declared.Field.{Field}
 use Rattle.layout.specs.declared.RecordType.{RecordType}
@@ -15,8 +15,7 @@ use Rattle.layout.specs.declared.Kind.{Kind}
 use Rattle.layout.specs.Kinds.{type_in, kind_in}
 use Rattle.layout.specs.Fields.{fields_of}
 use Rattle.layout.proofs.InOrder.{InOrder, fields-in-order}
-use Rattle.amounts.specs.declared.Outcome.{Outcome}
-use Rattle.amounts.specs.declared.Outcome.TheVariants.{Pass, Fault}
+use Rattle.refusal.specs.Outcomes.{Outcome, Pass, Fails}
 use Rattle.amounts.specs.Outcomes.{first}
 use Rattle.order.specs.declared.Stage.{Stage}
 use Rattle.order.specs.Order.{standing}
@@ -24,7 +23,8 @@ use Rattle.rules.specs.declared.State.{State}
 use Rattle.rules.specs.Checks.{char_fault, bad_fields, fault}
 use Rattle.rules.specs.NonDigits.{FirstNonDigit}
 use Rattle.rules.proofs.NonDigits.{fault-told, fault-exactly}
-use Rattle.judge.specs.Refusal.{refusal, refusal_of}
+use Rattle.refusal.specs.Refusals.{refusal}
+use Rattle.judge.specs.Refusal.{refusal_of}
 use Rattle.judge.specs.Flow.{records_of, head_name_of, judged}
 use Rattle.judge.specs.Part.{record_at}
 use Rattle.judge.proofs.Records.{length-chunks, record-whole, record-number}
@@ -36,9 +36,9 @@ abbrev pub NoSeven : Outcome → Type 0
 NoSeven o = Never 7 o
 
 -- where the first of two faults is 7 and the second cannot be, it is the first
-this-seven : (o : Outcome) {x : Outcome} {q : ℕ} → NoSeven x → first o x ≡ Fault 7 q → o ≡ Fault 7 q
+this-seven : (o : Outcome) {x : Outcome} {q : ℕ} → NoSeven x → first o x ≡ Fails 7 q → o ≡ Fails 7 q
 this-seven Pass {q = q} n e = absurd (n q e)
-this-seven (Fault m u) n e = e
+this-seven (Err why) n e = e
 
 -- the characters have 3, the order has 4 and 6
 pub no-seven-characters : (c : Characters) → NoSeven (char_fault c)
@@ -52,28 +52,28 @@ module _ (p : Stage) (r : List ℕ) (l : length r ≡ 120) (fl : List Field) (o 
   abbrev checked : Outcome
   checked = first (char_fault (first_bad r)) (first (standing p (type_in r) (kind_in r)) (first (bad_fields fl r) x))
 
-  of_fields : {q : ℕ} → checked ≡ Fault 7 q → (first_bad r ≡ Allowed) × (standing p (type_in r) (kind_in r) ≡ Pass) × (bad_fields fl r ≡ Fault 7 q)
+  of_fields : {q : ℕ} → checked ≡ Fails 7 q → (first_bad r ≡ Allowed) × (standing p (type_in r) (kind_in r) ≡ Pass) × (bad_fields fl r ≡ Fails 7 q)
   of_fields e =
       let a = other-fault (char_fault (first_bad r)) (no-seven-characters (first_bad r)) e in
       let b = other-fault (standing p (type_in r) (kind_in r)) (no-seven-order p (type_in r) (kind_in r)) a.1 in
       (allowed_of (first_bad r) a.0, b.0, this-seven (bad_fields fl r) n b.1)
 
   -- their 7 is behind the index of the first non-digit of these fields
-  pub seven-index : {q : ℕ} → checked ≡ Fault 7 q → (i : ℕ) × (q ≡ i + 1) × FirstNonDigit fl r i
+  pub seven-index : {q : ℕ} → checked ≡ Fails 7 q → (i : ℕ) × (q ≡ i + 1) × FirstNonDigit fl r i
   seven-index e = let t = fault-told r l 0 fl o (of_fields e).2 in (t.0, t.2, t.3)
 
   -- and is told exactly where the characters and the order are right
-  pub seven-when : (i : ℕ) → (checked ≡ Fault 7 (i + 1)) ↔ ((first_bad r ≡ Allowed) × (standing p (type_in r) (kind_in r) ≡ Pass) × FirstNonDigit fl r i)
+  pub seven-when : (i : ℕ) → (checked ≡ Fails 7 (i + 1)) ↔ ((first_bad r ≡ Allowed) × (standing p (type_in r) (kind_in r) ≡ Pass) × FirstNonDigit fl r i)
   seven-when i = let y = fault-exactly r l 0 fl o i in (λ e. let f = of_fields e in (f.0, f.1, y.0 f.2), λ h. rw (h.0, h.1, y.1 h.2))
 
 module _ (name : List ℕ) (st : State) (r : List ℕ) (l : length r ≡ 120) where
   -- 7 is told of a record exactly where its characters and its place in the order are right, at the first non-digit of its numeric fields
-  pub seven-exactly : (i : ℕ) → (fault name st r ≡ Fault 7 (i + 1)) ↔ ((first_bad r ≡ Allowed) × (standing st.stage (type_in r) (kind_in r) ≡ Pass) × FirstNonDigit (fields_of (kind_in r)) r i)
+  pub seven-exactly : (i : ℕ) → (fault name st r ≡ Fails 7 (i + 1)) ↔ ((first_bad r ≡ Allowed) × (standing st.stage (type_in r) (kind_in r) ≡ Pass) × FirstNonDigit (fields_of (kind_in r)) r i)
   unfolding fault
   seven-exactly i = seven-when st.stage r l (fields_of (kind_in r)) (fields-in-order r) _ (λ q e. let h = rest-number name st r e in omega arith) i
 
   -- so it is behind an index
-  seven_at : {q : ℕ} → fault name st r ≡ Fault 7 q → (i : ℕ) × (q ≡ i + 1) × FirstNonDigit (fields_of (kind_in r)) r i
+  seven_at : {q : ℕ} → fault name st r ≡ Fails 7 q → (i : ℕ) × (q ≡ i + 1) × FirstNonDigit (fields_of (kind_in r)) r i
   unfolding fault
   seven_at e = seven-index st.stage r l (fields_of (kind_in r)) (fields-in-order r) _ (λ q e. let h = rest-number name st r e in omega arith) e
 

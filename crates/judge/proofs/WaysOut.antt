@@ -1,4 +1,5 @@
 -- The ways out of a turn of the judge: behind the clean records, at a record that may not stand there, at a field that is no number, at another number than the delega's.
+use Rattle.std.specs.Prelude.{Err}
 use Prim.Native.Nat.{ℕ, ◌+◌, ◌*◌, ◌/◌, ◌<◌}
 use mathlib.Core.Path.{◌≡◌, refl, sym, ap}
 use mathlib.Core.Bool.{false}
@@ -11,8 +12,7 @@ use Rattle.text.specs.Characters.{first_bad}
 use Rattle.text.proofs.Allowed.{not-allowed}
 use Rattle.layout.specs.Kinds.{type_in, kind_in}
 use Rattle.layout.specs.Fields.{delega_number, fields_of, value_of}
-use Rattle.amounts.specs.declared.Outcome.{Outcome}
-use Rattle.amounts.specs.declared.Outcome.TheVariants.{Pass, Fault}
+use Rattle.refusal.specs.Outcomes.{Outcome, Pass, Fails}
 use Rattle.order.specs.Order.{fitting, standing}
 use Rattle.order.proofs.Fitting.{unfit-refused}
 use Rattle.rules.specs.declared.State.{State}
@@ -41,13 +41,13 @@ module _ (flow name : List ℕ) (x : Run) (st : State) (g : Going flow name x st
       go (no d) =
           let more : st.seen < length flow / 120 = let a = c.ahead in omega arith in
           let b = not-allowed _ (c.spoilt more) in
-          let f : char_fault (first_bad (take 120 (drop (st.seen * 120) flow))) ≡ Fault 3 (b.place + 1) = ap char_fault b.there in
-          rw (ne_eqb _ _ d, f) (out_at (Fault 3 (b.place + 1)) x st (going-refuses flow name x st g more _ refl (fault-chars name st _ f)))
+          let f : char_fault (first_bad (take 120 (drop (st.seen * 120) flow))) ≡ Fails 3 (b.place + 1) = ap char_fault b.there in
+          rw (ne_eqb _ _ d, f) (out_at (Fails 3 (b.place + 1)) x st (going-refuses flow name x st g more _ refl (fault-chars name st _ f)))
 
   module _ (more : st.seen < length flow / 120) (r : List ℕ) (er : r ≡ take 120 (drop (st.seen * 120) flow)) where
     -- a check that fails
-    pub out-fault : {e p : ℕ} → fault name st r ≡ Fault e p → Out (refused_with e (st.seen + 1) p) x st
-    out-fault {e} {p} f = out_at (Fault e p) x st (going-refuses flow name x st g more r er f)
+    pub out-fault : {e p : ℕ} → fault name st r ≡ Fails e p → Out (refused_with e (st.seen + 1) p) x st
+    out-fault {e} {p} f = out_at (Fails e p) x st (going-refuses flow name x st g more r er f)
 
     module _ (a : char_fault (first_bad r) ≡ Pass) where
       -- a record that may not stand here
@@ -58,13 +58,13 @@ module _ (flow name : List ℕ) (x : Run) (st : State) (g : Going flow name x st
 
       module _ (b : standing st.stage (type_in r) (kind_in r) ≡ Pass) where
         -- a field that is no number
-        pub out-bad : {e p : ℕ} → bad_fields (fields_of (kind_in r)) r ≡ Fault e p → Out (refused_with e (st.seen + 1) p) x st
+        pub out-bad : {e p : ℕ} → bad_fields (fields_of (kind_in r)) r ≡ Fails e p → Out (refused_with e (st.seen + 1) p) x st
         out-bad f = out-fault (fault-fields name st r (kind_in r) refl a b f)
 
         -- a field that is no number, or else another number than the delega's
-        pub out-misread : (bad_fields (fields_of (kind_in r)) r ≡ Pass → number_fault st.deleghe (kind_in r) (value_of r delega_number) ≡ Fault 8 4) → Out (after (bad_fields (fields_of (kind_in r)) r) st.seen (refused_with 8 (st.seen + 1) 4)) x st
+        pub out-misread : (bad_fields (fields_of (kind_in r)) r ≡ Pass → number_fault st.deleghe (kind_in r) (value_of r delega_number) ≡ Fails 8 4) → Out (after (bad_fields (fields_of (kind_in r)) r) st.seen (refused_with 8 (st.seen + 1) 4)) x st
         out-misread w = go (bad_fields (fields_of (kind_in r)) r) refl
           where
             go : (o : Outcome) → bad_fields (fields_of (kind_in r)) r ≡ o → Out (after (bad_fields (fields_of (kind_in r)) r) st.seen (refused_with 8 (st.seen + 1) 4)) x st
             go Pass f = rw f (out-fault (fault-number name st r (kind_in r) refl a b f (w f)))
-            go (Fault e p) f = rw f (out-bad f)
+            go (Err why) f = rw f (out-bad f)

@@ -1,4 +1,5 @@
 -- Beside a refusal stand zeros.
+use Rattle.std.specs.Prelude.{Err}
 use Prim.Native.Nat.{ℕ, ◌+◌, ◌%◌}
 use mathlib.Core.Path.{◌≡◌, refl}
 use mathlib.Core.List.{List, [], ◌∷◌}
@@ -6,14 +7,13 @@ use native.Mathlib.Omega.{arith}
 use lib.Dec.{eqb, ltb}
 use lib.ListN.{length}
 use Rattle.text.proofs.Tests.{either_way}
-use Rattle.amounts.specs.declared.Outcome.{Outcome}
-use Rattle.amounts.specs.declared.Outcome.TheVariants.{Pass, Fault}
+use Rattle.refusal.specs.Outcomes.{Outcome, Pass, Fails}
 use Rattle.rules.specs.declared.State.{State}
 use Rattle.rules.specs.State.{start_state}
 use Rattle.order.specs.Stages.{after_tail}
 use Rattle.rules.specs.Checks.{fault}
 use Rattle.rules.specs.Step.{next}
-use Rattle.judge.specs.declared.Verdict.TheVariants.{Refused}
+use Rattle.judge.specs.Refusal.{Refused}
 use Rattle.judge.specs.declared.Judgement.{Judgement}
 use Rattle.judge.specs.Plain.{zeros}
 use Rattle.judge.specs.Flow.{refused_with, accepted_with, closing, after, judged_from, records_of, head_name_of, judged}
@@ -32,7 +32,7 @@ closing-zeroed st =
 
 after-zeroed : (o : Outcome) (k : ℕ) (j : Judgement) → Zeroed j → Zeroed (after o k j)
 after-zeroed Pass k j f = f
-after-zeroed (Fault e p) k j f = refused-zeroed e (k + 1) p
+after-zeroed (Err why) k j f = refused-zeroed why.number (k + 1) why.position
 
 from-zeroed : (name : List ℕ) (st : State) (rs : List (List ℕ)) → Zeroed (judged_from name st rs)
 unfolding judged_from

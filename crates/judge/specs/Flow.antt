@@ -1,15 +1,14 @@
 -- Believed; `rest_of` and `Ready` serve inner functions. The judgement of a flow: the first fault in the order of the records, or acceptance with the counts and sums.
-use Rattle.std.specs.Prelude.{ℕ, zero, suc, ◌+◌, ◌-◌, ◌*◌, ◌/◌, ◌%◌, ◌≤◌, ◌<◌, ◌≡◌, List, [], ◌∷◌, cond, eqb, ltb, length, take, drop}
+use Rattle.std.specs.Prelude.{ℕ, zero, suc, ◌+◌, ◌-◌, ◌*◌, ◌/◌, ◌%◌, ◌≤◌, ◌<◌, ◌≡◌, List, [], ◌∷◌, cond, eqb, ltb, length, take, drop, Err}
 use Rattle.layout.specs.Fields.{bytes_of, support_name}
-use Rattle.amounts.specs.declared.Outcome.{Outcome}
-use Rattle.amounts.specs.declared.Outcome.TheVariants.{Pass, Fault}
+use Rattle.refusal.specs.Outcomes.{Outcome, Pass, Fails}
 use Rattle.rules.specs.declared.State.{State}
 use Rattle.rules.specs.State.{zero_sections, start_state}
 use Rattle.order.specs.Stages.{after_tail}
 use Rattle.rules.specs.Bounds.{StateBelow}
 use Rattle.rules.specs.Checks.{fault}
 use Rattle.rules.specs.Step.{next}
-use Rattle.judge.specs.declared.Verdict.TheVariants.{Accepted, Refused}
+use Rattle.judge.specs.Refusal.{Accepted, Refused}
 use Rattle.judge.specs.declared.Summary.{Summary}
 use Rattle.judge.specs.declared.Judgement.{Judgement}
 
@@ -34,7 +33,7 @@ closing st = cond (eqb st.stage.phase after_tail) (accepted_with st) (refused_wi
 -- "the first blocking fault ends the judgement", at the record after those seen
 abbrev pub after : Outcome → ℕ → Judgement → Judgement
 after Pass n j = j
-after (Fault e p) n j = refused_with e (n + 1) p
+after (Err why) n j = refused_with why.number (n + 1) why.position
 
 -- "records are judged in order": the records that are left, after those that led to a state
 unfoldable pub judged_from : List ℕ → State → List (List ℕ) → Judgement

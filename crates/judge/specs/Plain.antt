@@ -1,6 +1,6 @@
 -- For theorems, but for what the sums of a section's lines are made of, `sum_over`, `Side`, `column_of` and `section_in`: these are believed, for a record of sums (02, ask 10). What a flow's judgement is measured by: plain counts and sums over its records, the records that pass, and the checks of a record one by one.
-use Rattle.std.specs.Prelude.{ℕ, ◌+◌, ◌<◌, ◌≤◌, ◌%◌, ◌≡◌, true, false, cond, List, [], ◌∷◌, ◌++◌, map, eqb, length, take, drop, replicate}
-use Rattle.text.specs.declared.Characters.TheVariants.{Allowed}
+use Rattle.std.specs.Prelude.{ℕ, ◌+◌, ◌<◌, ◌≤◌, ◌%◌, ◌≡◌, true, false, cond, List, [], ◌∷◌, ◌++◌, map, eqb, length, take, drop, replicate, Err}
+use Rattle.text.specs.Answers.{Allowed}
 use Rattle.text.specs.Characters.{first_bad}
 use Rattle.text.specs.Numbers.{number_of}
 use Rattle.layout.specs.declared.Field.{Field}
@@ -14,8 +14,7 @@ use Rattle.layout.specs.Fields.{amount_at, final_balance, delega_number, creatio
 use Rattle.amounts.specs.declared.Sums.{Sums}
 use Rattle.order.specs.declared.Stage.{Stage}
 use Rattle.rules.specs.declared.State.{State}
-use Rattle.amounts.specs.declared.Outcome.{Outcome}
-use Rattle.amounts.specs.declared.Outcome.TheVariants.{Pass, Fault}
+use Rattle.refusal.specs.Outcomes.{Outcome, Pass, Fails}
 use Rattle.rules.specs.State.{start_state}
 use Rattle.order.specs.Order.{stands, type_stands, full}
 use Rattle.amounts.specs.Dates.{date_right}
@@ -25,7 +24,8 @@ use Rattle.rules.specs.Stored.{Stored, stored_of, right, fault_of}
 use Rattle.rules.specs.Checks.{char_fault, or_bad, bad_fields, number_fault, own_checks, fault}
 use Rattle.rules.specs.Step.{next}
 use Rattle.judge.specs.declared.Summary.{Summary}
-use Rattle.judge.specs.Refusal.{Refusal, refusal}
+use Rattle.refusal.specs.declared.Refusal.{Refusal}
+use Rattle.refusal.specs.Refusals.{refusal}
 use Rattle.judge.specs.Flow.{records_of, head_name_of}
 use Rattle.judge.specs.Part.{record_at}
 
@@ -118,7 +118,7 @@ pub record FirstFault (name : List ℕ) (st : State) (rs : List (List ℕ)) (n k
   pub split : rs ≡ before ++ (here ∷ behind)
   pub counted : k ≡ length before + 1
   pub passes : NoFault name st before
-  pub fails : fault name (state_after st before) here ≡ Fault n p
+  pub fails : fault name (state_after st before) here ≡ Fails n p
 
 -- no record has a fault, and the last is not EF
 pub record Unfinished (s : List ℕ) : Type 0 where
@@ -160,11 +160,11 @@ pub record NoSuchCode (s : List ℕ) (k : ℕ) : Type 0 where
 
 -- 4: a record of a type and a kind may stand at a stage
 abbrev pub order_check : Stage → RecordType → Kind → Outcome
-order_check p t k = cond (stands p k) Pass (cond (type_stands p t) (Fault 4 11) (Fault 4 2))
+order_check p t k = cond (stands p k) Pass (cond (type_stands p t) (Fails 4 11) (Fails 4 2))
 
 -- 6: the section has room for one more line
 abbrev pub most_check : Stage → Kind → Outcome
-most_check p k = cond (full p k) (Fault 6 11) Pass
+most_check p k = cond (full p k) (Fails 6 11) Pass
 
 -- 7: a numeric field has digits only
 abbrev pub field_check : List ℕ → Field → Outcome
@@ -184,7 +184,7 @@ checks_of name st r =
 -- an outcome has no number below n
 abbrev pub AtLeast : ℕ → Outcome → Type 0
 AtLeast n Pass = Unit {0}
-AtLeast n (Fault m p) = n ≤ m
+AtLeast n (Err why) = n ≤ why.number
 
 -- none of a list of outcomes has a number below n
 abbrev pub AllAtLeast : ℕ → List Outcome → Type 0

@@ -1,27 +1,24 @@
--- Believed. The number, the record and the position of a refusal: what document 01 says of each answer.
-use Rattle.std.specs.Prelude.{ℕ}
-use Rattle.judge.specs.declared.Verdict.{Verdict}
-use Rattle.judge.specs.declared.Verdict.TheVariants.{Accepted, Refused}
+-- Believed. The verdict on a flow, and its refusal: what document 01 says of each answer.
+use Rattle.std.specs.Prelude.{ℕ, Result, Ok, Err}
+use Rattle.refusal.specs.declared.Refusal.{Refusal}
+use Rattle.refusal.specs.Refusals.{refusal, no_refusal}
 
--- "A refusal is a number, a record counted from 1, and a position"
-pub record Refusal : Type 0 where
-  pub number : ℕ
-  pub «record» : ℕ
-  pub position : ℕ
+-- accepted, or the refusal
+abbrev pub Verdict : Type 0
+Verdict = Result Unit Refusal
 
-abbrev pub refusal : ℕ → ℕ → ℕ → Refusal
-refusal n r p = record { number = n; «record» = r; position = p }
+pattern abbrev pub Accepted : Verdict
+Accepted = Ok tt
 
--- an answer that is no refusal has none: all are zero
-abbrev pub no_refusal : Refusal
-no_refusal = refusal 0 0 0
+abbrev pub Refused : ℕ → ℕ → ℕ → Verdict
+Refused n r p = Err (refusal n r p)
 
 -- the refusal of a verdict
 abbrev pub refusal_of : Verdict → Refusal
 refusal_of Accepted = no_refusal
-refusal_of (Refused n r p) = refusal n r p
+refusal_of (Err why) = why
 
 -- "Every call on a flow judges it first and gives that refusal if there is one"
 abbrev pub judged_first : {A : Type 0} → (ℕ → ℕ → ℕ → A) → Verdict → A → A
 judged_first refused Accepted a = a
-judged_first refused (Refused n r p) a = refused n r p
+judged_first refused (Err why) a = refused why.number why.«record» why.position

@@ -1,7 +1,6 @@
 -- Believed, for a judgement that goes on from a state; `answer_of` is for theorems. A run over records: the first fault among them, and the state that those before it have led to.
-use Rattle.std.specs.Prelude.{List, [], ◌∷◌, ℕ}
-use Rattle.amounts.specs.declared.Outcome.{Outcome}
-use Rattle.amounts.specs.declared.Outcome.TheVariants.{Pass, Fault}
+use Rattle.std.specs.Prelude.{List, [], ◌∷◌, ℕ, Err}
+use Rattle.refusal.specs.Outcomes.{Outcome, Pass, Fails}
 use Rattle.rules.specs.declared.State.{State}
 use Rattle.rules.specs.Checks.{fault}
 use Rattle.rules.specs.Step.{next}
@@ -20,7 +19,7 @@ stands_at o st = record { fault = o; state = st }
 -- "the first blocking fault ends the judgement": the state stays that of the records before
 abbrev pub stopped : Outcome → State → Run → Run
 stopped Pass st x = x
-stopped (Fault e p) st x = stands_at (Fault e p) st
+stopped (Err why) st x = stands_at (Err why) st
 
 -- "records are judged in order", from a state on, in a flow whose head has this name
 unfoldable pub ran : List ℕ → State → List (List ℕ) → Run

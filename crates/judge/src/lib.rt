@@ -12,19 +12,11 @@ ghost use Rattle.judge.specs.Flow.{refused_with, closing, after, rest_of, judged
 ghost use Rattle.judge.specs.Run.{ran};
 ghost use Rattle.judge.specs.Ending.{ending};
 
-use amounts::{Outcome, Sums};
+use amounts::Sums;
 use layout::{Amount, Flow, Kind, Part};
 use order::Stage;
+use refusal::Refusal;
 use rules::State;
-use text::Digits;
-use words::Fifteen;
-
-// The answer: accepted, or refused with the number that documents 01 and 02 give, the record counted from 1, and the position.
-#[derive(Clone, Copy)]
-pub enum Verdict {
-    Accepted,
-    Refused(u64, usize, usize),
-}
 
 // What an accepted flow answers: the number of deleghe and of records, the sum of final balances, the number of lines, the sums of each of the five sections.
 #[derive(Clone, Copy)]
@@ -36,10 +28,10 @@ pub struct Summary {
     pub sums: [Sums; 5],
 }
 
-// The verdict beside the summary, which is all zeros with a refusal.
+// The verdict, acceptance or the refusal, beside the summary, which is all zeros with a refusal.
 #[derive(Clone, Copy)]
 pub struct Judgement {
-    pub verdict: Verdict,
+    pub verdict: Result<(), Refusal>,
     pub summary: Summary,
 }
 
@@ -48,7 +40,11 @@ fn refused(number: u64, at: usize, position: usize) -> Judgement
     ensures { result ≡ refused_with number at position }
 {
     Judgement {
-        verdict: Verdict::Refused(number, at, position),
+        verdict: Err(Refusal {
+            number,
+            record: at,
+            position,
+        }),
         summary: Summary {
             deleghe: 0,
             records: 0,
@@ -72,7 +68,7 @@ fn closing_of(st: State) -> Judgement
     let sums = money.flow;
     if stage.phase == Stage::TAIL {
         return Judgement {
-            verdict: Verdict::Accepted,
+            verdict: Ok(()),
             summary: Summary {
                 deleghe: st.deleghe,
                 records: st.seen,
@@ -110,8 +106,8 @@ fn ended(flow: &[u8], st: State, count: usize) -> Judgement
         return closing_of(st);
     }
     match records::char_fault(records::record_at(flow, k * Flow::RECORD)) {
-        Outcome::Fault(number, position) => refused(number, k + 1, position),
-        Outcome::Pass => refused(5, k + 1, 0),
+        Err(fault) => refused(fault.number, k + 1, fault.position),
+        Ok(()) => refused(5, k + 1, 0),
     }
 }
 
@@ -121,8 +117,8 @@ fn misplaced(stage: Stage, rec: &[u8], kind: Kind, k: usize) -> Judgement
     ensures { result ≡ after (standing stage (type_in rec.now) kind) k (refused_with 4 (k + 1) 2) }
 {
     match order::standing_of(stage, records::type_in(rec), kind) {
-        Outcome::Fault(number, position) => refused(number, k + 1, position),
-        Outcome::Pass => refused(4, k + 1, 2),
+        Err(fault) => refused(fault.number, k + 1, fault.position),
+        Ok(()) => refused(4, k + 1, 2),
     }
 }
 
@@ -137,7 +133,7 @@ fn misread(rec: &[u8], kind: Kind, k: usize) -> Judgement
     while f < fields.count {
         let field = list[f];
         let said = records::read_field(rec, field);
-        let Digits::Number(_) = said else {
+        let Ok(_) = said else {
             return refused(7, k + 1, records::non_digit_at(field, said));
         };
         f += 1;
@@ -181,7 +177,7 @@ pub fn judge_from(flow: &[u8], name: &[u8], kept: &mut [u64]) -> Judgement
             let mut at = form.at;
             let mut f: usize = 0;
             while f < last {
-                let Fifteen::Amount(v) = words::amount_at(rec, at) else {
+                let Some(v) = words::amount_at(rec, at) else {
                     break 'records misread(rec, kind, k);
                 };
                 values[f + 1] = v;
@@ -199,8 +195,8 @@ pub fn judge_from(flow: &[u8], name: &[u8], kept: &mut [u64]) -> Judgement
             }
             values = read.values;
         }
-        if let Outcome::Fault(number, position) = rules::values_fault(st, name, kind, rec, values) {
-            break 'records refused(number, k + 1, position);
+        if let Err(fault) = rules::values_fault(st, name, kind, rec, values) {
+            break 'records refused(fault.number, k + 1, fault.position);
         }
         st = rules::next_state(
             st,

@@ -6,16 +6,16 @@ use mathlib.Core.Logic.{◌↔◌}
 use native.Mathlib.Omega.{arith}
 use Rattle.judge.specs.Refusal.{refusal_of}
 use Rattle.judge.specs.Flow.{judged}
-use Rattle.correct.specs.declared.Correction.{Correction}
-use Rattle.correct.specs.declared.Correction.TheVariants as Correct
+use Rattle.correct.specs.Answers.{Correction}
+use Rattle.correct.specs.Answers as Correct
 use Rattle.correct.specs.Correction.{refusal_made, correction_of}
 use Rattle.correct.proofs.Refusals as Corrected
-use Rattle.mend.specs.declared.Mending.{Mending}
-use Rattle.mend.specs.declared.Mending.TheVariants as Mend
+use Rattle.mend.specs.Answers.{Mending}
+use Rattle.mend.specs.Answers as Mend
 use Rattle.mend.specs.Mending.{refusal_mended, remaining, mending_of}
 use Rattle.mend.proofs.Answered as Rebalanced
-use Rattle.dropping.specs.declared.Dropping.{Dropping}
-use Rattle.dropping.specs.declared.Dropping.TheVariants as Drop
+use Rattle.dropping.specs.Answers.{Dropping}
+use Rattle.dropping.specs.Answers as Drop
 use Rattle.dropping.specs.Dropping.{refusal_dropped, dropping_of}
 use Rattle.dropping.proofs.Refusals as Shortened
 use Rattle.sums.specs.declared.KeptSums.{KeptSums}

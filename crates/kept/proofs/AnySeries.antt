@@ -1,18 +1,19 @@
 -- "After any series of these from an accepted flow, refused ones included, the kept sums equal those of the lines"; and with a record that is not the flow's own a series changes nothing.
+use Rattle.std.specs.Prelude.{Err}
 use Prim.Native.Nat.{ℕ}
 use mathlib.Core.Path.{◌≡◌, refl, sym, ap, ap₂, ◌∙◌}
 use mathlib.Core.List.{List, [], ◌∷◌}
 use lib.ListN.{take}
 use Rattle.judge.specs.declared.Judgement.{Judgement}
-use Rattle.judge.specs.declared.Verdict.TheVariants.{Accepted}
+use Rattle.judge.specs.Refusal.{Accepted}
 use Rattle.judge.specs.Flow.{judged}
-use Rattle.correct.specs.declared.Correction.{Correction}
+use Rattle.correct.specs.Answers.{Correction}
 use Rattle.correct.proofs.StaysAccepted.{corrected-accepted}
-use Rattle.mend.specs.declared.Mending.{Mending}
-use Rattle.mend.specs.declared.Mending.TheVariants as Mend
+use Rattle.mend.specs.Answers.{Mending}
+use Rattle.mend.specs.Answers as Mend
 use Rattle.mend.proofs.MendedFlow.{mended-accepted}
-use Rattle.dropping.specs.declared.Dropping.{Dropping}
-use Rattle.dropping.specs.declared.Dropping.TheVariants as Shorter
+use Rattle.dropping.specs.Answers.{Dropping}
+use Rattle.dropping.specs.Answers as Shorter
 use Rattle.dropping.proofs.Dropped.{dropped-accepted}
 use Rattle.sums.specs.declared.KeptSums.{KeptSums}
 use Rattle.sums.specs.LineSums.{kept_of}
@@ -41,12 +42,12 @@ call-owns (Rebalance list) b w = go (mending_with b.kept b.flow list) refl
   where
     go : (a : Mending) → mending_with b.kept b.flow list ≡ a → (after_call (Rebalance list) b).kept ≡ kept_of (after_call (Rebalance list) b).flow
     go (Mend.Mended m) e = (mending-made b.kept b.flow list e).2
-    go (Mend.Refused m r p) e = let h = mending-refused b.kept b.flow list e in as-came b w h.0 h.2
+    go (Err why) e = let h = mending-refused b.kept b.flow list e in as-came b w h.0 h.2
 call-owns (Drop numbers) b w = go (dropping_with b.kept b.flow numbers) refl
   where
     go : (a : Dropping) → dropping_with b.kept b.flow numbers ≡ a → (after_call (Drop numbers) b).kept ≡ kept_of (after_call (Drop numbers) b).flow
     go (Shorter.Dropped m) e = (dropping-made b.kept b.flow numbers e).1 ∙ ap kept_of (sym (cut_by b numbers e))
-    go (Shorter.Refused m r p) e = let h = dropping-refused b.kept b.flow numbers e in as-came b w (cut_by b numbers e ∙ h.0) h.1
+    go (Err why) e = let h = dropping-refused b.kept b.flow numbers e in as-came b w (cut_by b numbers e ∙ h.0) h.1
 
 -- An accepted flow stays accepted.
 call-accepts : (c : Call) (b : Beside) → (judged b.flow).verdict ≡ Accepted → (judged (after_call c b).flow).verdict ≡ Accepted
@@ -63,14 +64,14 @@ call-accepts (Rebalance list) b w = go (mending_with b.kept b.flow list) refl
     go (Mend.Mended m) e =
         ap (λ (s : List ℕ). (judged s).verdict) (mending-made b.kept b.flow list e).0
         ∙ ap (λ (j : Judgement). j.verdict) (mended-accepted b.flow list ((mending-done b.kept b.flow list m).0 e).0)
-    go (Mend.Refused m r p) e = ap (λ (s : List ℕ). (judged s).verdict) (mending-refused b.kept b.flow list e).0 ∙ w
+    go (Err why) e = ap (λ (s : List ℕ). (judged s).verdict) (mending-refused b.kept b.flow list e).0 ∙ w
 call-accepts (Drop numbers) b w = go (dropping_with b.kept b.flow numbers) refl
   where
     go : (a : Dropping) → dropping_with b.kept b.flow numbers ≡ a → (judged (after_call (Drop numbers) b).flow).verdict ≡ Accepted
     go (Shorter.Dropped m) e =
         ap (λ (s : List ℕ). (judged s).verdict) (cut_by b numbers e ∙ ap (take m) (dropping-made b.kept b.flow numbers e).0)
         ∙ dropped-accepted b.flow numbers ((dropping-done b.kept b.flow numbers m).0 e).0
-    go (Shorter.Refused m r p) e = ap (λ (s : List ℕ). (judged s).verdict) (cut_by b numbers e ∙ (dropping-refused b.kept b.flow numbers e).0) ∙ w
+    go (Err why) e = ap (λ (s : List ℕ). (judged s).verdict) (cut_by b numbers e ∙ (dropping-refused b.kept b.flow numbers e).0) ∙ w
 
 -- So each call keeps an accepted flow with its own record beside it.
 pub call-keeps : (c : Call) (b : Beside) → Stands b → Stands (after_call c b)
@@ -101,7 +102,7 @@ call-changes-nothing (Rebalance list) b h = go (mending_with b.kept b.flow list)
   where
     go : (a : Mending) → mending_with b.kept b.flow list ≡ a → after_call (Rebalance list) b ≡ b
     go (Mend.Mended m) e = absurd (h ((mending-done b.kept b.flow list m).0 e).1)
-    go (Mend.Refused m r p) e = let w = mending-refused b.kept b.flow list e in ap₂ (λ s l. record { flow = s; kept = l }) w.0 w.2
+    go (Err why) e = let w = mending-refused b.kept b.flow list e in ap₂ (λ s l. record { flow = s; kept = l }) w.0 w.2
 call-changes-nothing (Drop numbers) b h = go (dropping_with b.kept b.flow numbers) refl
   where
     go : (a : Dropping) → dropping_with b.kept b.flow numbers ≡ a → after_call (Drop numbers) b ≡ b

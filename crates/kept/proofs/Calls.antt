@@ -1,27 +1,29 @@
 -- The three calls that take a record are guarded by it, each behind its own judgement.
+use Rattle.std.specs.Prelude.{Err}
 use Prim.Native.Nat.{ℕ, ◌<◌, ◌≤◌}
 use mathlib.Core.Path.{◌≡◌, refl, sym, ap, ◌∙◌}
 use mathlib.Core.List.{List, []}
 use native.Mathlib.Omega.{arith}
 use lib.ListN.{length}
 use Rattle.judge.specs.declared.Judgement.{Judgement}
-use Rattle.judge.specs.declared.Verdict.{Verdict}
-use Rattle.judge.specs.declared.Verdict.TheVariants as Judge
-use Rattle.judge.specs.Refusal.{Refusal, no_refusal, refusal_of}
+use Rattle.judge.specs.Refusal.{Verdict, refusal_of}
+use Rattle.judge.specs.Refusal as Judge
+use Rattle.refusal.specs.declared.Refusal.{Refusal}
+use Rattle.refusal.specs.Refusals.{no_refusal}
 use Rattle.judge.specs.Flow.{judged}
 use Rattle.judge.proofs.Turn.{judged-long}
 use Rattle.judge.proofs.FirstFault.{judgement-number, accepted-has-none}
-use Rattle.lenient.specs.declared.Lenient.{Lenient}
-use Rattle.lenient.specs.declared.Lenient.TheVariants as Leniently
-use Rattle.correct.specs.declared.Correction.TheVariants as Correct
+use Rattle.lenient.specs.Answers.{Lenient}
+use Rattle.lenient.specs.Answers as Leniently
+use Rattle.correct.specs.Answers as Correct
 use Rattle.correct.specs.Correction.{correction_of}
 use Rattle.correct.specs.WhenRefused.{AsFlow}
 use Rattle.correct.proofs.Answered.{answered-exactly}
-use Rattle.mend.specs.declared.Mending.TheVariants as Mend
+use Rattle.mend.specs.Answers as Mend
 use Rattle.mend.specs.Mending.{remaining, unless, weighed, mending_of}
 use Rattle.mend.proofs.Answering.{remaining-long}
 use Rattle.mend.proofs.Answered.{mending-number}
-use Rattle.dropping.specs.declared.Dropping.TheVariants as Drop
+use Rattle.dropping.specs.Answers as Drop
 use Rattle.dropping.specs.Dropping.{dropping_of}
 use Rattle.sums.specs.declared.KeptSums.{KeptSums}
 use Rattle.kept.specs.Keeping.{correction_with, mending_with, dropping_with}
@@ -37,7 +39,7 @@ strict-sort f = go (judged f).verdict refl
   where
     go : (v : Verdict) → (judged f).verdict ≡ v → Sort (refusal_of v)
     go Judge.Accepted e = none refl
-    go (Judge.Refused n r p) e = some (judgement-number f e).0
+    go (Err why) e = some (judgement-number f e).0
 
 -- What it refuses is its verdict.
 pub strict-is : (f : List ℕ) → 1 ≤ (strict f).number → (judged f).verdict ≡ Judge.Refused (strict f).number (strict f).«record» (strict f).position
@@ -45,7 +47,7 @@ strict-is f = go (judged f).verdict
   where
     go : (v : Verdict) → 1 ≤ (refusal_of v).number → v ≡ Judge.Refused (refusal_of v).number (refusal_of v).«record» (refusal_of v).position
     go Judge.Accepted h = absurd (omega arith)
-    go (Judge.Refused n r p) h = refl
+    go (Err why) h = refl
 
 strict-long : (f : List ℕ) → 65520 < length f → 1 ≤ (strict f).number
 strict-long f h = let e : (strict f).number ≡ 1 = ap (λ (j : Judgement). (refusal_of j.verdict).number) (judged-long f h) in omega arith
@@ -63,14 +65,14 @@ lenient-sort f = go (remaining f) refl
   where
     go : (v : Lenient) → remaining f ≡ v → Sort (refusal_lenient v)
     go Leniently.Passed e = none refl
-    go (Leniently.Refused n r p) e = some (remaining-number f e)
+    go (Err why) e = some (remaining-number f e)
 
 pub lenient-is : (f : List ℕ) → 1 ≤ (lenient f).number → remaining f ≡ Leniently.Refused (lenient f).number (lenient f).«record» (lenient f).position
 lenient-is f = go (remaining f)
   where
     go : (v : Lenient) → 1 ≤ (refusal_lenient v).number → v ≡ Leniently.Refused (refusal_lenient v).number (refusal_lenient v).«record» (refusal_lenient v).position
     go Leniently.Passed h = absurd (omega arith)
-    go (Leniently.Refused n r p) h = refl
+    go (Err why) h = refl
 
 pub lenient-none : (f : List ℕ) → lenient f ≡ no_refusal → remaining f ≡ Leniently.Passed
 lenient-none f e = go (remaining f) refl

@@ -3,8 +3,7 @@ use Prim.Native.Nat.{ℕ}
 use mathlib.Core.Path.{◌≡◌, sym, ◌∙◌}
 use mathlib.Core.Bool.{true, false}
 use mathlib.Core.List.{List}
-use Rattle.correct.specs.declared.Correction.{Correction}
-use Rattle.correct.specs.declared.Correction.TheVariants.{Made, Refused}
+use Rattle.correct.specs.Answers.{Correction, Made, Refused}
 use Rattle.correct.specs.Correction.{bytes_after, correction_of, corrected_bytes}
 use Rattle.correct.proofs.Conditions.{refused-untouched}
 use Rattle.sums.specs.declared.KeptSums.{KeptSums}

@@ -4,8 +4,7 @@ use mathlib.Core.Path.{◌≡◌, sym, ap, ◌∙◌}
 use mathlib.Core.Bool.{true, false}
 use mathlib.Core.List.{List}
 use lib.ListN.{take}
-use Rattle.dropping.specs.declared.Dropping.{Dropping}
-use Rattle.dropping.specs.declared.Dropping.TheVariants.{Dropped, Refused}
+use Rattle.dropping.specs.Answers.{Dropping, Dropped, Refused}
 use Rattle.dropping.specs.Dropping.{shortened, flow_by, dropping_of, dropped_flow}
 use Rattle.dropping.proofs.Dropped.{dropped-room, refused-stays}
 use Rattle.sums.specs.declared.KeptSums.{KeptSums}

@@ -1,25 +1,26 @@
 -- What each call leaves: with the flow's own record all is as the plain call leaves it and the record handed back is the flow's; a refusal leaves all as it came.
+use Rattle.std.specs.Prelude.{Err}
 use Prim.Native.Nat.{ℕ}
 use mathlib.Core.Path.{◌≡◌, refl, sym, ap, ◌∙◌}
 use mathlib.Core.List.{List}
 use lib.ListN.{take}
 use Rattle.amounts.specs.declared.Sums.{Sums}
 use Rattle.judge.specs.declared.Summary.{Summary}
-use Rattle.judge.specs.declared.Verdict.TheVariants as Judge
-use Rattle.judge.specs.declared.Verdict.TheVariants.{Accepted}
+use Rattle.judge.specs.Refusal as Judge
+use Rattle.judge.specs.Refusal.{Accepted}
 use Rattle.judge.specs.Flow.{judged}
 use Rattle.judge.specs.Plain.{zeros}
 use Rattle.judge.proofs.Zeros.{refused-zeros}
-use Rattle.correct.specs.declared.Correction.{Correction}
-use Rattle.correct.specs.declared.Correction.TheVariants as Correct
+use Rattle.correct.specs.Answers.{Correction}
+use Rattle.correct.specs.Answers as Correct
 use Rattle.correct.specs.Correction.{correction_of, corrected_bytes}
 use Rattle.correct.proofs.Conditions.{refused-untouched}
-use Rattle.mend.specs.declared.Mending.{Mending}
-use Rattle.mend.specs.declared.Mending.TheVariants as Mend
+use Rattle.mend.specs.Answers.{Mending}
+use Rattle.mend.specs.Answers as Mend
 use Rattle.mend.specs.Mending.{mending_of, mended_flow, mended_list}
 use Rattle.mend.proofs.MendedFlow as Rebalanced
-use Rattle.dropping.specs.declared.Dropping.{Dropping}
-use Rattle.dropping.specs.declared.Dropping.TheVariants as Drop
+use Rattle.dropping.specs.Answers.{Dropping}
+use Rattle.dropping.specs.Answers as Drop
 use Rattle.dropping.specs.Dropping.{dropping_of, dropped_flow}
 use Rattle.dropping.proofs.Dropped as Shortened
 use Rattle.sums.specs.declared.KeptSums.{KeptSums}
@@ -72,7 +73,7 @@ module _ (k : KeptSums) (f : List ℕ) where
       where
         go : (a : Correction) → correction_of f d subtype n x y ≡ a → corrected_with k f d subtype n x y ≡ corrected_bytes f d subtype n x y
         go Correct.Made q = (correction-made (w ∙ q)).0
-        go (Correct.Refused m r p) q = (correction-refused (w ∙ q)).0 ∙ sym (refused-untouched f d subtype n x y q)
+        go (Err why) q = (correction-refused (w ∙ q)).0 ∙ sym (refused-untouched f d subtype n x y q)
 
     pub correction-plain : k ≡ kept_of f → (correction_with k f d subtype n x y ≡ correction_of f d subtype n x y) × (corrected_with k f d subtype n x y ≡ corrected_bytes f d subtype n x y)
     correction-plain e = correction-as-plain (guarded-plain (correction-guarded k f d subtype n x y) ((stands-exactly k f).1 e))
@@ -92,7 +93,7 @@ module _ (k : KeptSums) (f : List ℕ) where
       where
         go : (a : Mending) → mending_of f list ≡ a → (mending_with k f list ≡ mending_of f list) × (mended_with k f list ≡ mended_flow f list) × (listed_with k f list ≡ mended_list f list)
         go (Mend.Mended m) q = let h = mending-made (w ∙ q) in (w, h.0, h.1)
-        go (Mend.Refused m r p) q = let h = mending-refused (w ∙ q) in let s = Rebalanced.refused-stays f list q in (w, h.0 ∙ sym s.0, h.1 ∙ sym s.1)
+        go (Err why) q = let h = mending-refused (w ∙ q) in let s = Rebalanced.refused-stays f list q in (w, h.0 ∙ sym s.0, h.1 ∙ sym s.1)
 
     pub mending-plain : k ≡ kept_of f → (mending_with k f list ≡ mending_of f list) × (mended_with k f list ≡ mended_flow f list) × (listed_with k f list ≡ mended_list f list)
     mending-plain e = mending-as-plain (guarded-plain (mending-guarded k f list) ((stands-exactly k f).1 e))
@@ -106,7 +107,7 @@ module _ (k : KeptSums) (f : List ℕ) where
             let w = (mending-done k f list m).0 e in
             let h = mending-made e in
             h.2 ∙ (ap kept_of h.0 ∙ (mended-sums f list w.0 ∙ sym w.1))
-        go (Mend.Refused m r p) e = (mending-refused e).2
+        go (Err why) e = (mending-refused e).2
 
   -- Droppings.
   module _ (numbers : List ℕ) where
@@ -125,7 +126,7 @@ module _ (k : KeptSums) (f : List ℕ) where
       where
         go : (a : Dropping) → dropping_of f numbers ≡ a → dropped_with k f numbers ≡ dropped_flow f numbers
         go (Drop.Dropped m) q = (dropping-made (w ∙ q)).0
-        go (Drop.Refused m r p) q = (dropping-refused (w ∙ q)).0 ∙ sym (Shortened.refused-stays f numbers q)
+        go (Err why) q = (dropping-refused (w ∙ q)).0 ∙ sym (Shortened.refused-stays f numbers q)
 
     pub dropping-plain : k ≡ kept_of f → (dropping_with k f numbers ≡ dropping_of f numbers) × (dropped_with k f numbers ≡ dropped_flow f numbers)
     dropping-plain e = dropping-as-plain (guarded-plain (dropping-guarded k f numbers) ((stands-exactly k f).1 e))

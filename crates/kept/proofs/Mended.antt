@@ -6,8 +6,7 @@ use mathlib.Core.List.{List}
 use Rattle.amounts.specs.declared.Sums.{Sums}
 use Rattle.judge.specs.declared.Judgement.{Judgement}
 use Rattle.judge.specs.Flow.{records_of}
-use Rattle.mend.specs.declared.Mending.{Mending}
-use Rattle.mend.specs.declared.Mending.TheVariants.{Mended, Refused}
+use Rattle.mend.specs.Answers.{Mending, Mended, Refused}
 use Rattle.mend.specs.Mending.{flow_by, mending_of, mended_flow, mended_list}
 use Rattle.mend.proofs.MendedFlow.{mended-accepted, refused-stays}
 use Rattle.sums.specs.declared.KeptSums.{KeptSums}

@@ -1,4 +1,5 @@
 -- "29 for such a call": 29 is told exactly where the flow passes the call's own judgement and the record is not the flow's; otherwise answer, bytes and list are the plain call's.
+use Rattle.std.specs.Prelude.{Err}
 use Prim.Native.Nat.{ℕ}
 use mathlib.Core.Path.{◌≡◌, refl, ap, ◌∙◌}
 use mathlib.Core.Bool.{false≢true}
@@ -7,23 +8,24 @@ use mathlib.Core.Logic.{◌↔◌}
 use native.Mathlib.Omega.{arith}
 use lib.ListN.{length}
 use Rattle.text.specs.Among.{among}
-use Rattle.judge.specs.declared.Verdict.TheVariants.{Accepted}
-use Rattle.judge.specs.Refusal.{Refusal, refusal}
+use Rattle.judge.specs.Refusal.{Accepted}
+use Rattle.refusal.specs.declared.Refusal.{Refusal}
+use Rattle.refusal.specs.Refusals.{refusal}
 use Rattle.judge.specs.Flow.{judged}
 use Rattle.judge.proofs.FirstFault.{judgement-number, accepted-has-none}
-use Rattle.lenient.specs.declared.Lenient.{Lenient}
-use Rattle.lenient.specs.declared.Lenient.TheVariants as Leniently
-use Rattle.correct.specs.declared.Correction.{Correction}
-use Rattle.correct.specs.declared.Correction.TheVariants as Correct
+use Rattle.lenient.specs.Answers.{Lenient}
+use Rattle.lenient.specs.Answers as Leniently
+use Rattle.correct.specs.Answers.{Correction}
+use Rattle.correct.specs.Answers as Correct
 use Rattle.correct.specs.Correction.{refusal_made, correction_of, corrected_bytes}
 use Rattle.correct.specs.WhenRefused as Why
 use Rattle.correct.proofs.Answered as Corrected
-use Rattle.mend.specs.declared.Mending.{Mending}
-use Rattle.mend.specs.declared.Mending.TheVariants as Mend
+use Rattle.mend.specs.Answers.{Mending}
+use Rattle.mend.specs.Answers as Mend
 use Rattle.mend.specs.Mending.{refusal_mended, remaining, unless, weighed, mending_of, mended_flow, mended_list}
 use Rattle.mend.proofs.Answered.{mending-numbers}
-use Rattle.dropping.specs.declared.Dropping.{Dropping}
-use Rattle.dropping.specs.declared.Dropping.TheVariants as Drop
+use Rattle.dropping.specs.Answers.{Dropping}
+use Rattle.dropping.specs.Answers as Drop
 use Rattle.dropping.specs.Dropping.{refusal_dropped, dropping_of, dropped_flow}
 use Rattle.dropping.specs.WhenRefused as Whence
 use Rattle.dropping.proofs.Answered as Dropped
@@ -61,7 +63,7 @@ module _ (k : KeptSums) (f : List ℕ) where
 
         go : (a : Correction) → correction_of f d subtype n x y ≡ a → refusal_made a ≡ refusal 29 0 0 → ⊥
         go Correct.Made e q = number-0 refl q
-        go (Correct.Refused m r p) e q = why ((Corrected.answered-exactly f d subtype n x y _).0 e) (ap (λ (t : Refusal). t.number) q)
+        go (Err said) e q = why ((Corrected.answered-exactly f d subtype n x y _).0 e) (ap (λ (t : Refusal). t.number) q)
 
     pub correction-29 : (refusal_made (correction_with k f d subtype n x y) ≡ refusal 29 0 0) ↔ (((judged f).verdict ≡ Accepted) × (k ≡ kept_of f → ⊥))
     correction-29 =
@@ -109,7 +111,7 @@ module _ (k : KeptSums) (f : List ℕ) where
 
         go : (a : Dropping) → dropping_of f numbers ≡ a → refusal_dropped a ≡ refusal 29 0 0 → ⊥
         go (Drop.Dropped m) e q = number-0 refl q
-        go (Drop.Refused m r p) e q = why ((Dropped.answered-exactly f numbers _).0 e) (ap (λ (t : Refusal). t.number) q)
+        go (Err said) e q = why ((Dropped.answered-exactly f numbers _).0 e) (ap (λ (t : Refusal). t.number) q)
 
     pub dropping-29 : (refusal_dropped (dropping_with k f numbers) ≡ refusal 29 0 0) ↔ (((judged f).verdict ≡ Accepted) × (k ≡ kept_of f → ⊥))
     dropping-29 =

@@ -1,6 +1,6 @@
 -- Serves inner functions. What a call is refused whose record is not the flow's.
 use Rattle.std.specs.Prelude.{cond, eqb}
-use Rattle.judge.specs.Refusal.{Refusal}
+use Rattle.refusal.specs.declared.Refusal.{Refusal}
 use Rattle.kept.specs.declared.Mismatch.{Mismatch}
 
 -- the refusal of the call's own judgement, else 29

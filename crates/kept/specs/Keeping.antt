@@ -1,16 +1,16 @@
 -- Believed. Ask 10 of document 02: the record of ten sums made from an acceptance, and the three calls that take one and hand one back; 29; the flow and the list afterwards.
-use Rattle.std.specs.Prelude.{ℕ, cond, List}
+use Rattle.std.specs.Prelude.{ℕ, cond, List, Err}
 use Rattle.judge.specs.Refusal.{judged_first}
 use Rattle.judge.specs.Flow.{judged}
-use Rattle.correct.specs.declared.Correction.{Correction}
-use Rattle.correct.specs.declared.Correction.TheVariants as Correct
+use Rattle.correct.specs.Answers.{Correction}
+use Rattle.correct.specs.Answers as Correct
 use Rattle.correct.specs.Correction.{bytes_after, correction_of, corrected_bytes}
-use Rattle.mend.specs.declared.Mending.{Mending}
-use Rattle.mend.specs.declared.Mending.TheVariants as Mend
+use Rattle.mend.specs.Answers.{Mending}
+use Rattle.mend.specs.Answers as Mend
 use Rattle.mend.specs.Mending as Rebalancing
 use Rattle.mend.specs.Mending.{remaining, unless, mending_of, mended_flow, mended_list}
-use Rattle.dropping.specs.declared.Dropping.{Dropping}
-use Rattle.dropping.specs.declared.Dropping.TheVariants as Drop
+use Rattle.dropping.specs.Answers.{Dropping}
+use Rattle.dropping.specs.Answers as Drop
 use Rattle.dropping.specs.Dropping as Shortening
 use Rattle.dropping.specs.Dropping.{shortened, dropping_of, dropped_flow}
 use Rattle.sums.specs.declared.KeptSums.{KeptSums}
@@ -36,7 +36,7 @@ corrected_with k f d subtype n debit credit = bytes_after (correction_with k f d
 -- "handed back by each correction": the record of the flow as it is then; "Every refusal leaves lent memory as it came", and so the record
 abbrev pub kept_corrected : Correction → KeptSums → KeptSums → KeptSums
 kept_corrected Correct.Made new old = new
-kept_corrected (Correct.Refused n r p) new old = old
+kept_corrected (Err why) new old = old
 
 -- the answer and the record that is handed back
 unfoldable pub correction_kept : KeptSums → List ℕ → ℕ → ℕ → ℕ → ℕ → ℕ → CorrectionKept
@@ -58,7 +58,7 @@ listed_with k f list = Rebalancing.flow_by (mending_with k f list) (mended_list 
 -- "handed back by each .. rebalancing"
 abbrev pub kept_mended : Mending → KeptSums → KeptSums → KeptSums
 kept_mended (Mend.Mended n) new old = new
-kept_mended (Mend.Refused n r p) new old = old
+kept_mended (Err why) new old = old
 
 -- the answer and the record that is handed back
 unfoldable pub mending_kept : KeptSums → List ℕ → List ℕ → MendingKept
@@ -75,7 +75,7 @@ dropped_with k f numbers = Shortening.flow_by (dropping_with k f numbers) (dropp
 -- "handed back by each .. dropping"
 abbrev pub kept_dropped : Dropping → KeptSums → KeptSums → KeptSums
 kept_dropped (Drop.Dropped n) new old = new
-kept_dropped (Drop.Refused n r p) new old = old
+kept_dropped (Err why) new old = old
 
 -- the answer and the record that is handed back: that of the flow that is left
 unfoldable pub dropping_kept : KeptSums → List ℕ → List ℕ → DroppingKept

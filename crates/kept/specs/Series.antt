@@ -1,10 +1,10 @@
 -- For theorems. A series of calls on a flow with a record beside it.
-use Rattle.std.specs.Prelude.{ℕ, ◌≡◌, List, [], ◌∷◌, take}
-use Rattle.judge.specs.declared.Verdict.TheVariants.{Accepted}
+use Rattle.std.specs.Prelude.{ℕ, ◌≡◌, List, [], ◌∷◌, take, Err}
+use Rattle.judge.specs.Refusal.{Accepted}
 use Rattle.judge.specs.Flow.{judged}
 use Rattle.correct.specs.Effect as Plain
-use Rattle.dropping.specs.declared.Dropping.{Dropping}
-use Rattle.dropping.specs.declared.Dropping.TheVariants as Shorter
+use Rattle.dropping.specs.Answers.{Dropping}
+use Rattle.dropping.specs.Answers as Shorter
 use Rattle.sums.specs.declared.KeptSums.{KeptSums}
 use Rattle.sums.specs.LineSums.{kept_of}
 use Rattle.kept.specs.Keeping.{keeping, corrected_with, correction_kept, mended_with, mending_kept, dropping_with, dropped_with, dropping_kept}
@@ -23,7 +23,7 @@ pub data Call : Type 0 where
 -- "the new length is answered": the flow after a dropping is of that length.
 abbrev pub cut_to : Dropping → List ℕ → List ℕ
 cut_to (Shorter.Dropped n) g = take n g
-cut_to (Shorter.Refused n r p) g = g
+cut_to (Err why) g = g
 
 -- The flow after a call, and the record that it hands back.
 abbrev pub after_call : Call → Beside → Beside

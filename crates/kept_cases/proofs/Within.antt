@@ -6,7 +6,7 @@ use mathlib.Core.List.{List}
 use borrow.Author.Tests.{leb-true, leb-false}
 use lib.Dec.{leb}
 use lib.ListN.{length}
-use Rattle.dropping.specs.declared.Dropping.TheVariants.{Dropped}
+use Rattle.dropping.specs.Answers.{Dropped}
 use Rattle.dropping.proofs.Dropped.{dropped-room}
 use Rattle.sums.specs.declared.KeptSums.{KeptSums}
 use Rattle.kept.specs.declared.DroppingKept.{DroppingKept}

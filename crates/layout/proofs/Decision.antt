@@ -3,6 +3,7 @@ use Prim.Native.Nat.{ℕ}
 use mathlib.Core.Path.{◌≡◌, refl}
 use mathlib.Core.Bool.{Bool, true, false, cond}
 use lib.Dec.{eqb, eqb→eq}
+use Rattle.std.specs.Prelude.{Option}
 use Rattle.layout.specs.declared.Section.{Section}
 use Rattle.layout.specs.declared.Subtype.{Subtype}
 use Rattle.layout.specs.declared.Kind.{Kind}
@@ -12,10 +13,10 @@ use Rattle.layout.specs.Decision.{decided, kind_by, balance_by, balance_of}
 use Rattle.layout.proofs.Table.{everywhere}
 
 -- what is decided of a subtype has this kind, and the balance subtype of this kind's row
-abbrev Agree : Subtype → Kind → Type 0
+abbrev Agree : Option Subtype → Kind → Type 0
 Agree t k = (kind_by t ≡ k) × (balance_by t ≡ of_line 0 (λ s. (section_at s).balance_subtype) k)
 
-choice : (b : Bool) (t u : Subtype) (j k : Kind) → Agree t j → Agree u k → Agree (cond b t u) (cond b j k)
+choice : (b : Bool) (t u : Option Subtype) (j k : Kind) → Agree t j → Agree u k → Agree (cond b t u) (cond b j k)
 choice true t u j k p q = p
 choice false t u j k p q = q
 

@@ -8,7 +8,7 @@ use lib.Dec.{eqb, ltb}
 use lib.ListN.{length, get_or, take, drop}
 use lib.Seq.{drop-cons}
 use borrow.Author.Tests.{eqb-true, ne_eqb, ltb-false}
-use Rattle.text.specs.declared.Digits.TheVariants.{Number, NonDigit}
+use Rattle.text.specs.Answers.{Number, NonDigit}
 use Rattle.text.specs.Numbers.{number_from, number_of}
 use Rattle.layout.specs.declared.Kind.{Kind}
 use Rattle.layout.specs.declared.Kind.TheVariants.{Unknown}

@@ -1,7 +1,6 @@
 -- Believed. The kind of a record, from its type at 2-3 and its subtype at 11-12.
 use Rattle.std.specs.Prelude.{ℕ, ◌+◌, Bool, true, false, cond, List, [], ◌∷◌, eqb, get_or, take, drop}
-use Rattle.text.specs.declared.Digits.{Digits}
-use Rattle.text.specs.declared.Digits.TheVariants.{Number, NonDigit, TooLong}
+use Rattle.text.specs.Answers.{Digits, Number, NonDigit, TooLong}
 use Rattle.text.specs.Numbers.{number_of}
 use Rattle.layout.specs.declared.Section.{Section}
 use Rattle.layout.specs.declared.RecordType.{RecordType}

@@ -5,28 +5,28 @@ ghost use Rattle.layout.specs.Decision.{decided, balance_of};
 
 use crate::{Kind, Subtype};
 
-// A line: its section, and the subtype of the balance that closes it. A balance: its section. Sections count from 0, as in the table, with which this agrees on
+// A line: its section, and the subtype of the balance that closes it. A balance: its section. Any other number: none. Sections count from 0, as in the table, with which this agrees on
 // every number (`decision-is-table`).
-fn decide(subtype: u64) -> Subtype
+fn decide(subtype: u64) -> Option<Subtype>
     ensures { result ≡ decided subtype }
 {
     match subtype {
         // Erario
-        1 => Subtype::OfLine(0, 2),
-        2 => Subtype::OfBalance(0),
+        1 => Some(Subtype::OfLine(0, 2)),
+        2 => Some(Subtype::OfBalance(0)),
         // INPS
-        3 => Subtype::OfLine(1, 4),
-        4 => Subtype::OfBalance(1),
+        3 => Some(Subtype::OfLine(1, 4)),
+        4 => Some(Subtype::OfBalance(1)),
         // Regioni
-        5 => Subtype::OfLine(2, 6),
-        6 => Subtype::OfBalance(2),
+        5 => Some(Subtype::OfLine(2, 6)),
+        6 => Some(Subtype::OfBalance(2)),
         // IMU and local taxes
-        7 => Subtype::OfLine(3, 8),
-        8 => Subtype::OfBalance(3),
+        7 => Some(Subtype::OfLine(3, 8)),
+        8 => Some(Subtype::OfBalance(3)),
         // Identifying elements
-        17 => Subtype::OfLine(4, 18),
-        18 => Subtype::OfBalance(4),
-        _ => Subtype::NoSubtype,
+        17 => Some(Subtype::OfLine(4, 18)),
+        18 => Some(Subtype::OfBalance(4)),
+        _ => None,
     }
 }
 
@@ -35,9 +35,9 @@ pub fn section_kind(subtype: u64) -> Kind
     ensures { result ≡ section_kind subtype }
 {
     match decide(subtype) {
-        Subtype::OfLine(s, _) => Kind::Line(s),
-        Subtype::OfBalance(s) => Kind::Balance(s),
-        Subtype::NoSubtype => Kind::Unknown,
+        Some(Subtype::OfLine(s, _)) => Kind::Line(s),
+        Some(Subtype::OfBalance(s)) => Kind::Balance(s),
+        None => Kind::Unknown,
     }
 }
 
@@ -46,8 +46,8 @@ pub fn balance_of(subtype: u64) -> u64
     ensures { result ≡ balance_of subtype }
 {
     match decide(subtype) {
-        Subtype::OfLine(_, balance) => balance,
-        Subtype::OfBalance(_) => 0,
-        Subtype::NoSubtype => 0,
+        Some(Subtype::OfLine(_, balance)) => balance,
+        Some(Subtype::OfBalance(_)) => 0,
+        None => 0,
     }
 }

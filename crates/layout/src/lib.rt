@@ -238,12 +238,11 @@ pub enum Kind {
     Unknown,
 }
 
-// What a subtype of a record 40 stands for: a line, with its section and the subtype of the balance that closes it; the balance of a section; or that a number is no subtype.
+// What a subtype of a record 40 stands for: a line, with its section and the subtype of the balance that closes it; or the balance of a section.
 #[derive(Clone, Copy)]
 pub enum Subtype {
     OfLine(usize, u64),
     OfBalance(usize),
-    NoSubtype,
 }
 
 // A field of a record: rec[start..end].

@@ -1,4 +1,5 @@
 -- The pass that judges a flow leniently: what each of its ways out says of the whole flow.
+use Rattle.std.specs.Prelude.{Err}
 use Prim.Native.Nat.{ℕ, ◌+◌, ◌*◌, ◌/◌, ◌<◌, ◌≤◌}
 use mathlib.Core.Path.{◌≡◌, refl, sym, ap, ◌∙◌}
 use mathlib.Core.List.{List}
@@ -7,8 +8,7 @@ use lib.ListN.{length, take, drop}
 use Rattle.text.specs.Characters.{first_bad}
 use Rattle.layout.specs.declared.Kind.{Kind}
 use Rattle.layout.specs.Kinds.{kind_in}
-use Rattle.amounts.specs.declared.Outcome.{Outcome}
-use Rattle.amounts.specs.declared.Outcome.TheVariants.{Pass, Fault}
+use Rattle.refusal.specs.Outcomes.{Outcome, Pass, Fails}
 use Rattle.amounts.specs.Outcomes.{first}
 use Rattle.rules.specs.declared.State.{State}
 use Rattle.rules.specs.State.{start_state}
@@ -20,15 +20,14 @@ use Rattle.judge.specs.Flow.{records_of, rest_of, head_name_of}
 use Rattle.rebalance.specs.Rebalance.{kept_fault}
 use Rattle.rebalance.specs.Weigh.{Turn}
 use Rattle.rebalance.proofs.Turns.{next-below, rest-on, rest_end, rest-start}
-use Rattle.lenient.specs.declared.Lenient.{Lenient}
-use Rattle.lenient.specs.declared.Lenient.TheVariants.{Refused}
+use Rattle.lenient.specs.Answers.{Lenient, Refused}
 use Rattle.lenient.specs.Lenient.{misfit_fault, lenient_fault, or_refused, ended, lenient_from}
 use Rattle.lenient.specs.Inner.{kept_of, lenient_of}
 
 -- A check that comes first says nothing new behind another.
 first-again : (a b c : Outcome) → first a (first b c) ≡ first a (first b (first a c))
 first-again Pass b c = refl
-first-again (Fault n p) b c = refl
+first-again (Err why) b c = refl
 
 -- The outcome of a record, by its kind: check 3, with which the checks that rebalancing leaves alone begin, has passed before them.
 pub fault-by : (name : List ℕ) (m p : ℕ) (st : State) (k : Kind) (r : List ℕ) → k ≡ kind_in r → lenient_of name m p st k r ≡ lenient_fault name m p st r
@@ -62,7 +61,7 @@ module _ (flow : List ℕ) (m p : ℕ) (st : State) (w : Judging flow m p st) wh
     opened = w.rest ∙ rw (rest-on flow st.seen more, ← er)
 
     -- Its fault is the answer.
-    pub judging-refuses : {e q : ℕ} → lenient_fault (head_name_of flow) m p st r ≡ Fault e q → Refused e (st.seen + 1) q ≡ answer
+    pub judging-refuses : {e q : ℕ} → lenient_fault (head_name_of flow) m p st r ≡ Fails e q → Refused e (st.seen + 1) q ≡ answer
     judging-refuses f = sym (rw f at opened)
 
     -- Where it passes, the judgement goes on behind it.

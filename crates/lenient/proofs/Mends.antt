@@ -1,4 +1,5 @@
 -- The lenient judgement and the others: records that pass it are mended by rebalancing, where what that writes fits; records that pass every check pass it.
+use Rattle.std.specs.Prelude.{Err}
 use Prim.Native.Nat.{ℕ, ◌+◌}
 use mathlib.Core.Path.{◌≡◌, refl, ◌∙◌}
 use mathlib.Core.Bool.{true}
@@ -8,8 +9,7 @@ use native.Mathlib.Decide.{ℕ_discrete}
 use borrow.Author.Tests.{eq-eqb, ne_eqb}
 use Rattle.text.specs.Characters.{first_bad}
 use Rattle.layout.specs.Kinds.{kind_in}
-use Rattle.amounts.specs.declared.Outcome.{Outcome}
-use Rattle.amounts.specs.declared.Outcome.TheVariants.{Pass, Fault}
+use Rattle.refusal.specs.Outcomes.{Outcome, Pass, Fails}
 use Rattle.amounts.specs.Outcomes.{first}
 use Rattle.amounts.proofs.Outcomes.{first-pass}
 use Rattle.order.specs.Stages.{after_tail}
@@ -21,14 +21,13 @@ use Rattle.judge.specs.Plain.{NoFault, state_after}
 use Rattle.rebalance.specs.Rebalance.{kept_fault, fits_all, all_fit, Sized, Mendable}
 use Rattle.text.proofs.Tests.{both_true}
 use Rattle.rebalance.proofs.Emit.{fault-kept}
-use Rattle.lenient.specs.declared.Lenient.{Lenient}
-use Rattle.lenient.specs.declared.Lenient.TheVariants.{Passed, Refused}
+use Rattle.lenient.specs.Answers.{Lenient, Passed, Refused}
 use Rattle.lenient.specs.Lenient.{misfit_fault, lenient_fault, or_refused, ended, lenient_from}
 
 -- Where the records that are left pass, the next one does, and those behind it.
 passed_on : (o : Outcome) (n : ℕ) (x : Lenient) → or_refused o n x ≡ Passed → (o ≡ Pass) × (x ≡ Passed)
 passed_on Pass n x e = (refl, e)
-passed_on (Fault m p) n x e = let z : ◌≡◌ {A = ℕ} 0 1 = cc in absurd (omega arith)
+passed_on (Err why) n x e = let z : ◌≡◌ {A = ℕ} 0 1 = cc in absurd (omega arith)
 
 -- Where the judgement ends with no refusal, the last record was EF.
 passed-end : (st : State) → ended st ≡ Passed → st.stage.phase ≡ after_tail
@@ -61,7 +60,7 @@ no-misfit n = rw (ne_eqb 0 (n + 1) (λ h. omega arith))
 -- A check that has passed says nothing when it is made again.
 first-twice : (a b : Outcome) → first a (first a b) ≡ first a b
 first-twice Pass b = refl
-first-twice (Fault n p) b = refl
+first-twice (Err why) b = refl
 
 -- The checks that rebalancing leaves alone speak then.
 pub lenient-kept : (name : List ℕ) (st : State) (r : List ℕ) → lenient_fault name 0 0 st r ≡ kept_fault name st r

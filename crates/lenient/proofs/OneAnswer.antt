@@ -4,7 +4,7 @@ use mathlib.Core.Path.{◌≡◌, sym, ◌∙◌}
 use mathlib.Core.List.{List}
 use Rattle.rules.specs.State.{start_state}
 use Rattle.judge.specs.Flow.{records_of, head_name_of}
-use Rattle.lenient.specs.declared.Lenient.{Lenient}
+use Rattle.lenient.specs.Answers.{Lenient}
 use Rattle.lenient.specs.Lenient.{lenient_from}
 
 -- "any two answers allowed by it are equal"

@@ -7,12 +7,11 @@ use mathlib.Core.Logic.{◌↔◌}
 use native.Mathlib.Omega.{arith}
 use lib.Dec.{eqb}
 use lib.ListN.{length}
-use Rattle.text.specs.declared.Characters.TheVariants.{Allowed}
+use Rattle.text.specs.Answers.{Allowed}
 use Rattle.text.specs.Characters.{first_bad}
 use Rattle.layout.specs.Kinds.{type_in, kind_in}
 use Rattle.layout.specs.Fields.{delega_number, value_of}
-use Rattle.amounts.specs.declared.Outcome.{Outcome}
-use Rattle.amounts.specs.declared.Outcome.TheVariants.{Pass, Fault}
+use Rattle.refusal.specs.Outcomes.{Outcome, Pass, Fails}
 use Rattle.amounts.specs.Outcomes.{first}
 use Rattle.amounts.proofs.Outcomes.{first-assoc}
 use Rattle.order.specs.Order.{standing}
@@ -31,7 +30,7 @@ no-seven-misfit : (m p n : ℕ) → NoSeven (misfit_fault m p n)
 unfolding misfit_fault
 no-seven-misfit m p n q = go (eqb m (n + 1))
   where
-    go : (b : Bool) → cond b (Fault 4 p) Pass ≡ Fault 7 q → ⊥
+    go : (b : Bool) → cond b (Fails 4 p) Pass ≡ Fails 7 q → ⊥
     go true e = let z : ◌≡◌ {A = ℕ} 4 7 = cc in omega arith
     go false e = let z : ◌≡◌ {A = ℕ} 0 1 = cc in omega arith
 
@@ -49,22 +48,22 @@ module _ (name : List ℕ) (st : State) (r : List ℕ) (l : length r ≡ 120) wh
   no-seven-behind q e = let h = rest-number name st r (sym (first-assoc number own stored) ∙ ap (λ (o : Outcome). first o stored) e) in omega arith
 
   -- Of the checks that rebalancing leaves alone it is told exactly where a record's characters and its place in the order are right.
-  pub kept-seven-exactly : (i : ℕ) → (kept_fault name st r ≡ Fault 7 (i + 1)) ↔ ((first_bad r ≡ Allowed) × (standing st.stage (type_in r) (kind_in r) ≡ Pass) × FirstNonDigit (kept_fields (kind_in r)) r i)
+  pub kept-seven-exactly : (i : ℕ) → (kept_fault name st r ≡ Fails 7 (i + 1)) ↔ ((first_bad r ≡ Allowed) × (standing st.stage (type_in r) (kind_in r) ≡ Pass) × FirstNonDigit (kept_fields (kind_in r)) r i)
   unfolding kept_fault
   kept-seven-exactly i = seven-when st.stage r l (kept_fields (kind_in r)) (kept-in-order r) (first number own) no-seven-behind i
 
   -- So it is behind an index.
-  pub kept-seven-at : {q : ℕ} → kept_fault name st r ≡ Fault 7 q → (i : ℕ) × (q ≡ i + 1) × FirstNonDigit (kept_fields (kind_in r)) r i
+  pub kept-seven-at : {q : ℕ} → kept_fault name st r ≡ Fails 7 q → (i : ℕ) × (q ≡ i + 1) × FirstNonDigit (kept_fields (kind_in r)) r i
   unfolding kept_fault
   kept-seven-at e = seven-index st.stage r l (kept_fields (kind_in r)) (kept-in-order r) (first number own) no-seven-behind e
 
   -- In the lenient judgement, where besides the record is not the known misfit.
   pub lenient-seven-exactly : (m p i : ℕ) →
-      (lenient_fault name m p st r ≡ Fault 7 (i + 1)) ↔ ((misfit_fault m p st.seen ≡ Pass) × (first_bad r ≡ Allowed) × (standing st.stage (type_in r) (kind_in r) ≡ Pass) × FirstNonDigit (kept_fields (kind_in r)) r i)
+      (lenient_fault name m p st r ≡ Fails 7 (i + 1)) ↔ ((misfit_fault m p st.seen ≡ Pass) × (first_bad r ≡ Allowed) × (standing st.stage (type_in r) (kind_in r) ≡ Pass) × FirstNonDigit (kept_fields (kind_in r)) r i)
   unfolding lenient_fault
   lenient-seven-exactly m p i = (there, λ h. rw (h.1, h.0) ((kept-seven-exactly i).1 (h.1, h.2, h.3)))
     where
-      there : lenient_fault name m p st r ≡ Fault 7 (i + 1) → (misfit_fault m p st.seen ≡ Pass) × (first_bad r ≡ Allowed) × (standing st.stage (type_in r) (kind_in r) ≡ Pass) × FirstNonDigit (kept_fields (kind_in r)) r i
+      there : lenient_fault name m p st r ≡ Fails 7 (i + 1) → (misfit_fault m p st.seen ≡ Pass) × (first_bad r ≡ Allowed) × (standing st.stage (type_in r) (kind_in r) ≡ Pass) × FirstNonDigit (kept_fields (kind_in r)) r i
       there e =
           let a = other-fault (char_fault (first_bad r)) (no-seven-characters (first_bad r)) e in
           let b = other-fault (misfit_fault m p st.seen) (no-seven-misfit m p st.seen) a.1 in

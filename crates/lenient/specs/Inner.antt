@@ -4,7 +4,7 @@ use Rattle.text.specs.Characters.{first_bad}
 use Rattle.layout.specs.declared.Kind.{Kind}
 use Rattle.layout.specs.Kinds.{type_in}
 use Rattle.layout.specs.Fields.{delega_number, value_of}
-use Rattle.amounts.specs.declared.Outcome.{Outcome}
+use Rattle.refusal.specs.Outcomes.{Outcome}
 use Rattle.amounts.specs.Outcomes.{first}
 use Rattle.order.specs.Order.{standing}
 use Rattle.rules.specs.declared.State.{State}

@@ -1,21 +1,19 @@
 -- Believed down to `ended`; what follows serves inner functions. The lenient judgement of records: the first fault of the checks that documents 01 and 02 list, with every total, sign, balance and tail value taken as right.
-use Rattle.std.specs.Prelude.{ℕ, ◌+◌, cond, List, [], ◌∷◌, eqb}
+use Rattle.std.specs.Prelude.{ℕ, ◌+◌, cond, List, [], ◌∷◌, eqb, Err}
 use Rattle.text.specs.Characters.{first_bad}
 use Rattle.order.specs.Stages.{after_tail}
-use Rattle.amounts.specs.declared.Outcome.{Outcome}
-use Rattle.amounts.specs.declared.Outcome.TheVariants.{Pass, Fault}
+use Rattle.refusal.specs.Outcomes.{Outcome, Pass, Fails}
 use Rattle.amounts.specs.Outcomes.{first}
 use Rattle.rules.specs.declared.State.{State}
 use Rattle.rules.specs.Checks.{char_fault}
 use Rattle.rules.specs.Step.{next}
 use Rattle.rebalance.specs.Rebalance.{kept_fault}
-use Rattle.lenient.specs.declared.Lenient.{Lenient}
-use Rattle.lenient.specs.declared.Lenient.TheVariants.{Passed, Refused}
+use Rattle.lenient.specs.Answers.{Lenient, Passed, Refused}
 
 -- "the first blocking fault ends the judgement", at the record after those seen
 abbrev pub or_refused : Outcome → ℕ → Lenient → Lenient
 or_refused Pass n x = x
-or_refused (Fault e p) n x = Refused e (n + 1) p
+or_refused (Err why) n x = Refused why.number (n + 1) why.position
 
 -- "Refusal 5 comes after all records have passed"
 unfoldable pub ended : State → Lenient
@@ -23,7 +21,7 @@ ended st = cond (eqb st.stage.phase after_tail) Passed (Refused 5 (st.seen + 1) 
 
 -- 4 at the one record that is known to stand in a place of another kind, the m-th, at position p; m is 0 where there is none. n records stand before
 unfoldable pub misfit_fault : ℕ → ℕ → ℕ → Outcome
-misfit_fault m p n = cond (eqb m (n + 1)) (Fault 4 p) Pass
+misfit_fault m p n = cond (eqb m (n + 1)) (Fails 4 p) Pass
 
 -- the first failed check of a record, among those that stay: 3, that 4, and then those that rebalancing leaves alone, of which the first is 3 again and has passed
 unfoldable pub lenient_fault : List ℕ → ℕ → ℕ → State → List ℕ → Outcome

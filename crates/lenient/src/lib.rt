@@ -43,7 +43,7 @@ fn kept_count(k: Kind) -> usize
 }
 
 // Check 7, of the fields that are not stored.
-fn digits_fault(rec: &[u8], kind: Kind) -> Outcome
+fn digits_fault(rec: &[u8], kind: Kind) -> Result<(), Fault>
     requires { length rec.now ≡ 120 }
     ensures { result ≡ bad_fields (kept_fields kind) rec.now }
 {
@@ -55,11 +55,11 @@ fn digits_fault(rec: &[u8], kind: Kind) -> Outcome
         let field = list[f];
         let said = records::read_field(rec, field);
         let Digits::Number(_) = said else {
-            return Outcome::Fault(7, records::non_digit_at(field, said));
+            return Err(Fault { number: 7, position: records::non_digit_at(field, said) });
         };
         f += 1;
     }
-    Outcome::Pass
+    Ok(())
 }
 
 // What a record's first numeric field says, the number of its delega or the head's date; 0 where it is no number.
@@ -77,28 +77,28 @@ fn first_value(rec: &[u8], kind: Kind) -> u64
 }
 
 // Check 14, of a delega whose lines have the sums t.
-fn negative_fault(t: Sums) -> Outcome
+fn negative_fault(t: Sums) -> Result<(), Fault>
     ensures { result ≡ negative_fault t }
 {
     if t.debit < t.credit {
-        return Outcome::Fault(14, Position::TYPE);
+        return Err(Fault { number: 14, position: Position::TYPE });
     }
-    Outcome::Pass
+    Ok(())
 }
 
 // Check 16, of the tail.
-fn tail_fault(name: &[u8], rec: &[u8]) -> Outcome
+fn tail_fault(name: &[u8], rec: &[u8]) -> Result<(), Fault>
     requires { length rec.now ≡ 120 }
     ensures { result ≡ tail_name name.now (bytes_of rec.now support_name) }
 {
     if amounts::same_bytes(&rec[Part::SUPPORT_NAME..Part::SUPPORT_NAME_END], name) {
-        return Outcome::Pass;
+        return Ok(());
     }
-    Outcome::Fault(16, Position::SUPPORT_NAME)
+    Err(Fault { number: 16, position: Position::SUPPORT_NAME })
 }
 
 // Checks 9, 14, 16, 17 and 26: what is judged beside the stored fields.
-fn own_fault(st: State, name: &[u8], rec: &[u8], kind: Kind) -> Outcome
+fn own_fault(st: State, name: &[u8], rec: &[u8], kind: Kind) -> Result<(), Fault>
     requires { length rec.now ≡ 120 }
     ensures { result ≡ own_fault name.now st kind rec.now }
 {
@@ -108,35 +108,29 @@ fn own_fault(st: State, name: &[u8], rec: &[u8], kind: Kind) -> Outcome
     match kind {
         Kind::Head => rules::head_record(rec, first_value(rec, kind)),
         Kind::Taxpayer => rules::code_fault(rules::has_code(rec)),
-        Kind::Domicile => Outcome::Pass,
+        Kind::Domicile => Ok(()),
         Kind::Line(s) => {
             let t = records::line_sums(rec, kind);
             amounts::line_fault(s, t.debit, t.credit)
         }
-        Kind::Balance(_) => Outcome::Pass,
+        Kind::Balance(_) => Ok(()),
         Kind::Payment => negative_fault(all),
-        Kind::Receipt => Outcome::Pass,
-        Kind::Addressee => Outcome::Pass,
+        Kind::Receipt => Ok(()),
+        Kind::Addressee => Ok(()),
         Kind::Tail => tail_fault(name, rec),
-        Kind::Unknown => Outcome::Pass,
+        Kind::Unknown => Ok(()),
     }
 }
 
 // The checks behind 3 that rebalancing leaves alone, of a record of a kind: 4 and 6, 7 of the fields that are not stored, 8, and then 9, 14, 16, 17 and 26.
-fn kept_fault(st: State, name: &[u8], rec: &[u8], kind: Kind) -> Outcome
+fn kept_fault(st: State, name: &[u8], rec: &[u8], kind: Kind) -> Result<(), Fault>
     requires { (length rec.now ≡ 120) × (st.deleghe < 1000) }
     ensures { result ≡ kept_of name.now st kind rec.now }
 {
-    if let Outcome::Fault(number, at) = order::standing_of(st.stage, records::type_in(rec), kind) {
-        return Outcome::Fault(number, at);
-    }
-    if let Outcome::Fault(number, at) = digits_fault(rec, kind) {
-        return Outcome::Fault(number, at);
-    }
+    order::standing_of(st.stage, records::type_in(rec), kind)?;
+    digits_fault(rec, kind)?;
     let n = first_value(rec, kind);
-    if let Outcome::Fault(number, at) = rules::number_fault(st.deleghe, kind, n) {
-        return Outcome::Fault(number, at);
-    }
+    rules::number_fault(st.deleghe, kind, n)?;
     own_fault(st, name, rec, kind)
 }
 
@@ -148,15 +142,13 @@ fn record_fault(
     kind: Kind,
     misfit: usize,
     position: usize,
-) -> Outcome
+) -> Result<(), Fault>
     requires { (length rec.now ≡ 120) × (st.seen < 1000) × (st.deleghe < 1000) }
     ensures { result ≡ lenient_of name.now misfit position st kind rec.now }
 {
-    if let Outcome::Fault(number, at) = records::char_fault(rec) {
-        return Outcome::Fault(number, at);
-    }
+    records::char_fault(rec)?;
     if misfit == st.seen + 1 {
-        return Outcome::Fault(4, position);
+        return Err(Fault { number: 4, position: position });
     }
     kept_fault(st, name, rec, kind)
 }

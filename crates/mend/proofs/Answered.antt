@@ -9,7 +9,7 @@ use native.Mathlib.Decide.{ℕ_discrete, dec_lt}
 use borrow.Author.Tests.{lt-ltb, le-ltb}
 use lib.ListN.{length}
 use Rattle.text.specs.Among.{among}
-use Rattle.amounts.specs.declared.Outcome.TheVariants.{Fault}
+use Rattle.refusal.specs.Outcomes.{Fails}
 use Rattle.rules.specs.declared.State.{State}
 use Rattle.rules.specs.State.{start_state}
 use Rattle.judge.specs.Flow.{records_of, head_name_of}
@@ -17,19 +17,18 @@ use Rattle.judge.specs.Plain.{Whole}
 use Rattle.judge.proofs.OwnNumbers.{In, in-fault, in-more}
 use Rattle.rebalance.specs.Rebalance.{all_fit}
 use Rattle.rebalance.proofs.KeptNumbers.{kept_in, last-in}
-use Rattle.lenient.specs.declared.Lenient.{Lenient}
-use Rattle.lenient.specs.declared.Lenient.TheVariants as Kept
+use Rattle.lenient.specs.Answers.{Lenient}
+use Rattle.lenient.specs.Answers as Kept
 use Rattle.changes.specs.Changes.{changes_of}
 use Rattle.judge.specs.Plain.{state_after}
-use Rattle.mend.specs.declared.Mending.{Mending}
-use Rattle.mend.specs.declared.Mending.TheVariants.{Refused}
+use Rattle.mend.specs.Answers.{Mending, Refused}
 use Rattle.mend.specs.Mending.{refusal_mended, remaining_from, remaining, listed_in, weighed, unless, mending_of}
 use Rattle.mend.specs.WhenRefused.{FirstRemaining, Mends, remaining_numbers, mending_numbers, Answers, TooLong, NotWhole, FaultAt, NoTail, NoFit, ShortList, IsRebalanced}
 use Rattle.mend.proofs.Answering.{remaining-long, remaining-none, remaining-ragged, remaining-records}
 use Rattle.mend.proofs.Remaining.{all-remain, none-ended, told-first, Ends, passing, unended, failing, ends}
 
 -- A fault that remains in a record has one of these numbers.
-pub remaining-in : {name : List ℕ} {st : State} {rs : List (List ℕ)} {n k p : ℕ} → FirstRemaining name st rs n k p → In remaining_numbers (Fault n p)
+pub remaining-in : {name : List ℕ} {st : State} {rs : List (List ℕ)} {n k p : ℕ} → FirstRemaining name st rs n k p → In remaining_numbers (Fails n p)
 remaining-in {name} {st} t = rw (← t.fails) (kept_in _ name (state_after st t.before) t.here (last-in name (state_after st t.before) t.here))
 
 -- A flow and a list.

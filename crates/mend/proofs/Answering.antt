@@ -10,11 +10,10 @@ use Rattle.rules.specs.State.{start_state}
 use Rattle.judge.specs.Flow.{records_of, head_name_of}
 use Rattle.judge.specs.Plain.{Whole}
 use Rattle.rebalance.specs.Rebalance.{refreshed}
-use Rattle.lenient.specs.declared.Lenient.TheVariants as Kept
+use Rattle.lenient.specs.Answers as Kept
 use Rattle.lenient.specs.Lenient.{lenient_from}
 use Rattle.changes.specs.Changes.{changes_of}
-use Rattle.mend.specs.declared.Mending.{Mending}
-use Rattle.mend.specs.declared.Mending.TheVariants.{Refused}
+use Rattle.mend.specs.Answers.{Mending, Refused}
 use Rattle.mend.specs.Mending.{remaining_from, remaining, weighed, flow_by, list_by, mending_of, mended_flow, mended_list}
 use Rattle.mend.proofs.Remaining.{remaining-lenient}
 

@@ -11,15 +11,16 @@ use Rattle.layout.specs.declared.Kind.{Kind}
 use Rattle.layout.specs.Sections.{section_at}
 use Rattle.layout.specs.Kinds.{kind_in}
 use Rattle.layout.specs.Fields.{tail_deleghe, tail_sum, tail_records, fields_of, bytes_of}
-use Rattle.amounts.specs.declared.Outcome.TheVariants.{Pass, Fault}
+use Rattle.refusal.specs.Outcomes.{Pass, Fails}
 use Rattle.rules.specs.declared.State.{State}
 use Rattle.rules.specs.State.{start_state}
 use Rattle.rules.specs.Stored.{Stored, Value, Mark, section_sums, stored_of, right, fault_of, wrong}
 use Rattle.rules.specs.Checks.{bad_fields, fault}
 use Rattle.text.specs.Numbers.{number_of}
 use Rattle.rules.specs.Step.{next}
-use Rattle.judge.specs.declared.Verdict.TheVariants as Judged
-use Rattle.judge.specs.Refusal.{refusal, refusal_of}
+use Rattle.judge.specs.Refusal as Judged
+use Rattle.refusal.specs.Refusals.{refusal}
+use Rattle.judge.specs.Refusal.{refusal_of}
 use Rattle.judge.specs.Flow.{records_of, head_name_of, judged}
 use Rattle.judge.specs.Plain.{Whole, state_after}
 use Rattle.judge.proofs.FirstFault.{record-fault}
@@ -37,7 +38,7 @@ use Rattle.rebalance.proofs.Judged.{sized-records}
 use Rattle.changes.specs.Changes.{written_fields, place, changes_of}
 use Rattle.changes.specs.Listed.{record_behind, OneOf, first, later}
 use Rattle.changes.proofs.Listed.{changed-exactly}
-use Rattle.mend.specs.declared.Mending.TheVariants.{Mended}
+use Rattle.mend.specs.Answers.{Mended}
 use Rattle.mend.specs.Mending.{mending_of}
 use Rattle.mend.specs.WhenRefused.{NoneRemains}
 use Rattle.mend.specs.Effect.{ListedAt}
@@ -52,25 +53,25 @@ pub record Wrongly (fl : List Field) (r s : List ℕ) (p : ℕ) : Type 0 where
 
 -- A stored field that is not right differs from what it should hold.
 wrongly-one : (f : Field) (x : Stored) (r s : List ℕ) (n p : ℕ) → f.start ≡ start_of x → f.end ≡ start_of x + width_of x → fits_one x ≡ true → take (width_of x) (drop (start_of x) s) ≡ text_of x →
-    right x r ≡ false → fault_of x ≡ Fault n p → (p ≡ f.start + 1) × (bytes_of r f ≡ bytes_of s f → ⊥)
+    right x r ≡ false → fault_of x ≡ Fails n p → (p ≡ f.start + 1) × (bytes_of r f ≡ bytes_of s f → ⊥)
 wrongly-one f x r s n p a b h o e q = (placed x a q, λ d. true≢false (sym (holds-right x r h (part r ∙ (d ∙ (sym (part s) ∙ o)))) ∙ e))
   where
     part : (t : List ℕ) → take (width_of x) (drop (start_of x) t) ≡ bytes_of t f
     part t = rw (a, b) (ap (λ (m : ℕ). take m (drop (start_of x) t)) (let z : width_of x ≡ start_of x + width_of x - start_of x = omega arith in z))
 
-    placed : (y : Stored) → f.start ≡ start_of y → fault_of y ≡ Fault n p → p ≡ f.start + 1
+    placed : (y : Stored) → f.start ≡ start_of y → fault_of y ≡ Fails n p → p ≡ f.start + 1
     placed (Value m g v) c d = rw c (let z : p ≡ g.start + 1 = cc in z)
     placed (Mark m g v) c d = rw c (let z : p ≡ g + 1 = cc in z)
 
 -- The first stored field that is not right is one of the columns.
-wrongly : (fl : List Field) (xs : List Stored) (r s : List ℕ) (n p : ℕ) → Covers fl xs → fits_all xs ≡ true → Holds xs s → wrong xs r ≡ Fault n p → Wrongly fl r s p
+wrongly : (fl : List Field) (xs : List Stored) (r s : List ℕ) (n p : ℕ) → Covers fl xs → fits_all xs ≡ true → Holds xs s → wrong xs r ≡ Fails n p → Wrongly fl r s p
 unfolding fits_all
 wrongly [] [] r s n p c f o e = let z : ◌≡◌ {A = ℕ} 0 1 = cc in absurd (omega arith)
 wrongly [] (x ∷ xs) r s n p c f o e = absurd c
 wrongly (g ∷ fl) [] r s n p c f o e = absurd c
 wrongly (g ∷ fl) (x ∷ xs) r s n p c f o e = go (right x r) refl e (wrongly fl xs r s n p c.2 (both_true (fits_one x) (fits_all xs) f).1 o.1)
   where
-    go : (b : Bool) → right x r ≡ b → cond b (wrong xs r) (fault_of x) ≡ Fault n p → (wrong xs r ≡ Fault n p → Wrongly fl r s p) → Wrongly (g ∷ fl) r s p
+    go : (b : Bool) → right x r ≡ b → cond b (wrong xs r) (fault_of x) ≡ Fails n p → (wrong xs r ≡ Fails n p → Wrongly fl r s p) → Wrongly (g ∷ fl) r s p
     go true q e ih = let w = ih e in record { field = w.field; one = later w.one; at = w.at; differ = w.differ }
     go false q e ih = let w = wrongly-one g x r s n p c.0 c.1 (both_true (fits_one x) (fits_all xs) f).0 o.0 q e in record { field = g; one = first refl; at = w.0; differ = w.1 }
 
@@ -93,18 +94,18 @@ module _ (name : List ℕ) (st : State) (r : List ℕ) (l : length r ≡ 120) (k
   seven-only (f ∷ fl) = field-only (number_of (bytes_of r f)) f (seven-only fl)
 
   -- A fault other than 7 is that of a stored field.
-  stored-fault : {n p : ℕ} → (7 ≡ n → ⊥) → fault name st r ≡ Fault n p → wrong (stored_of st (kind_in r)) r ≡ Fault n p
+  stored-fault : {n p : ℕ} → (7 ≡ n → ⊥) → fault name st r ≡ Fails n p → wrong (stored_of st (kind_in r)) r ≡ Fails n p
   unfolding fault
   stored-fault d e =
       let k = kept-each name st r kept in
       (other-fault (bad_fields (fields_of (kind_in r)) r) (never (seven-only (fields_of (kind_in r))) d) (rw (k.characters, k.order, k.number, k.own) at e)).1
 
   -- The field differs once the record is rebalanced.
-  pub fault-differs : {n p : ℕ} → (7 ≡ n → ⊥) → fault name st r ≡ Fault n p → Wrongly (written_fields (kind_in r)) r (emit st r) p
+  pub fault-differs : {n p : ℕ} → (7 ≡ n → ⊥) → fault name st r ≡ Fails n p → Wrongly (written_fields (kind_in r)) r (emit st r) p
   fault-differs {n} {p} d e = go (storing st r) fits holds (stored-fault d e)
     where
-      go : {k : Kind} → Storing st k → fits_all (stored_of st k) ≡ true → Holds (stored_of st k) (emit st r) → wrong (stored_of st k) r ≡ Fault n p → Wrongly (written_fields k) r (emit st r) p
-      go (plain z f) i o q = let y : Pass ≡ Fault n p = ap (λ (xs : List Stored). wrong xs r) (sym z) ∙ q in let x : ◌≡◌ {A = ℕ} 0 1 = cc in absurd (omega arith)
+      go : {k : Kind} → Storing st k → fits_all (stored_of st k) ≡ true → Holds (stored_of st k) (emit st r) → wrong (stored_of st k) r ≡ Fails n p → Wrongly (written_fields k) r (emit st r) p
+      go (plain z f) i o q = let y : Pass ≡ Fails n p = ap (λ (xs : List Stored). wrong xs r) (sym z) ∙ q in let x : ◌≡◌ {A = ℕ} 0 1 = cc in absurd (omega arith)
       go (balance s h) i o q = wrongly _ _ r (emit st r) n p (balance-covers s (section_sums st s) (section_at s).totals) i o q
       go payment i o q = wrongly _ _ r (emit st r) n p (refl, refl, tt) i o q
       go tail i o q =
@@ -147,7 +148,7 @@ pub record Met (f : List ℕ) (n k p : ℕ) : Type 0 where
   pub sized : length one ≡ 120
   pub kept : kept_fault (head_name_of f) after one ≡ Pass
   pub fits : fits_all (stored_of after (kind_in one)) ≡ true
-  pub fails : fault (head_name_of f) after one ≡ Fault n p
+  pub fails : fault (head_name_of f) after one ≡ Fails n p
 
 pub met : (f list : List ℕ) {n k p m : ℕ} → (judged f).verdict ≡ Judged.Refused n k p → 5 < n → mending_of f list ≡ Mended m → Met f n k p
 unfolding refreshed

@@ -12,7 +12,7 @@ use Rattle.rules.specs.State.{start_state}
 use Rattle.rules.specs.Step.{next}
 use Rattle.state.specs.Numbers.{overlay}
 use Rattle.judge.specs.declared.Judgement.{Judgement}
-use Rattle.judge.specs.declared.Verdict.TheVariants.{Accepted}
+use Rattle.judge.specs.Refusal.{Accepted}
 use Rattle.judge.specs.Flow.{accepted_with, records_of, head_name_of, judged}
 use Rattle.judge.specs.Plain.{state_after}
 use Rattle.judge.proofs.Accepted.{accepted-means-no-fault}
@@ -23,8 +23,7 @@ use Rattle.rebalance.proofs.Judged.{sized-records, judged-rebalanced, accepted-u
 use Rattle.lenient.proofs.Mends.{lenient-mends}
 use Rattle.changes.specs.Changes.{Place, changed_from, changes_of, place_numbers}
 use Rattle.changes.proofs.Listed.{none_from}
-use Rattle.mend.specs.declared.Mending.{Mending}
-use Rattle.mend.specs.declared.Mending.TheVariants.{Mended, Refused}
+use Rattle.mend.specs.Answers.{Mending, Mended, Refused}
 use Rattle.mend.specs.Mending.{flow_by, list_by, mending_of, mended_flow, mended_list}
 use Rattle.mend.specs.WhenRefused.{NoneRemains, Mends, Answers, TooLong, NotWhole, FaultAt, NoTail, NoFit, ShortList, IsRebalanced}
 use Rattle.mend.proofs.Remaining.{remaining-lenient, all-remain}

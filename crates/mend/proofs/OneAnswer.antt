@@ -2,7 +2,7 @@
 use Prim.Native.Nat.{ℕ}
 use mathlib.Core.Path.{◌≡◌, sym, ◌∙◌}
 use mathlib.Core.List.{List}
-use Rattle.mend.specs.declared.Mending.{Mending}
+use Rattle.mend.specs.Answers.{Mending}
 use Rattle.mend.proofs.Answering.{Answering}
 
 -- "any two answers allowed by it are equal"

@@ -15,7 +15,7 @@ use Rattle.rules.specs.declared.State.{State}
 use Rattle.rules.specs.State.{start_state}
 use Rattle.rules.specs.Stored.{section_sums, stored_of}
 use Rattle.rules.specs.Step.{next}
-use Rattle.judge.specs.declared.Verdict.TheVariants.{Accepted}
+use Rattle.judge.specs.Refusal.{Accepted}
 use Rattle.judge.specs.Flow.{records_of, judged}
 use Rattle.judge.proofs.Records.{length-chunks}
 use Rattle.judge.proofs.Accepted.{accepted-means-no-fault}
@@ -27,7 +27,7 @@ use Rattle.rebalance.proofs.Alike.{Alike, alike-equal, alike-stored}
 use Rattle.rebalance.proofs.Emit.{kind-put, next-emit}
 use Rattle.rebalance.proofs.Judged.{sized-records, accepted-untouched}
 use Rattle.changes.specs.Changes.{written_fields}
-use Rattle.mend.specs.declared.Mending.TheVariants.{Mended}
+use Rattle.mend.specs.Answers.{Mended}
 use Rattle.mend.specs.Mending.{mending_of, mended_flow}
 use Rattle.mend.specs.Effect.{may_change}
 use Rattle.mend.proofs.MendedFlow.{flow-by}

@@ -1,4 +1,5 @@
 -- The faults that remain in records, one by one: none where each passes and the last is EF, else that of the first record that has one, else 5.
+use Rattle.std.specs.Prelude.{Err}
 use Prim.Native.Nat.{ℕ, suc, ◌+◌}
 use mathlib.Core.Path.{◌≡◌, refl, ap, ap₂, ◌∙◌}
 use mathlib.Core.List.{List, [], ◌∷◌, ◌++◌}
@@ -6,19 +7,17 @@ use native.Mathlib.Omega.{arith}
 use native.Mathlib.Decide.{ℕ_discrete}
 use borrow.Author.Tests.{eq-eqb, ne_eqb}
 use lib.ListN.{length}
-use Rattle.text.specs.declared.Characters.{Characters}
-use Rattle.text.specs.declared.Characters.TheVariants.{Allowed, BadAt}
+use Rattle.text.specs.Answers.{Characters, Allowed, BadAt}
 use Rattle.text.specs.Characters.{first_bad}
-use Rattle.amounts.specs.declared.Outcome.{Outcome}
-use Rattle.amounts.specs.declared.Outcome.TheVariants.{Pass, Fault}
+use Rattle.refusal.specs.Outcomes.{Outcome, Pass, Fails}
 use Rattle.order.specs.Stages.{after_tail}
 use Rattle.rules.specs.declared.State.{State}
 use Rattle.rules.specs.Step.{next}
 use Rattle.judge.specs.Plain.{state_after}
 use Rattle.rebalance.specs.Rebalance.{kept_fault}
 use Rattle.rebalance.proofs.AsJudged.{kept-then-stored}
-use Rattle.lenient.specs.declared.Lenient.{Lenient}
-use Rattle.lenient.specs.declared.Lenient.TheVariants as Kept
+use Rattle.lenient.specs.Answers.{Lenient}
+use Rattle.lenient.specs.Answers as Kept
 use Rattle.lenient.specs.Lenient.{or_refused, ended, lenient_from}
 use Rattle.lenient.proofs.Mends.{lenient-kept}
 use Rattle.mend.specs.Mending.{remaining_from}
@@ -29,7 +28,7 @@ pub record-says : (name : List ℕ) (st : State) (r : List ℕ) → length r ≡
 unfolding kept_fault
 record-says name st r l = go (first_bad r) refl
   where
-    bad : {i : ℕ} → first_bad r ≡ BadAt i → kept_fault name st r ≡ Fault 3 (i + 1)
+    bad : {i : ℕ} → first_bad r ≡ BadAt i → kept_fault name st r ≡ Fails 3 (i + 1)
     bad e = rw e
 
     go : (c : Characters) → first_bad r ≡ c → Remains name st r (kept_fault name st r)
@@ -63,7 +62,7 @@ module _ (name : List ℕ) where
       from_on st r rs ∙ rw h.0 (none-ended (next st r) rs h.1 e ∙ ap (λ (n : ℕ). Kept.Refused 5 n 0) (let z : st.seen + 1 + length rs + 1 ≡ st.seen + suc (length rs) + 1 = omega arith in z))
 
   -- Where a fault remains behind records in which none does, it is told.
-  pub told-first : (st : State) (before : List (List ℕ)) (here : List ℕ) (behind : List (List ℕ)) {n p : ℕ} → NoneRemains name st before → kept_fault name (state_after st before) here ≡ Fault n p →
+  pub told-first : (st : State) (before : List (List ℕ)) (here : List ℕ) (behind : List (List ℕ)) {n p : ℕ} → NoneRemains name st before → kept_fault name (state_after st before) here ≡ Fails n p →
       remaining_from name st (before ++ (here ∷ behind)) ≡ Kept.Refused n (st.seen + (length before + 1)) p
   unfolding state_after next
   told-first st [] here behind h e = from_on st here behind ∙ rw e
@@ -103,4 +102,4 @@ module _ (name : List ℕ) where
     where
       go : (o : Outcome) → kept_fault name st r ≡ o → Ends (next st r) rs (remaining_from name (next st r) rs) → Ends st (r ∷ rs) (or_refused o st.seen (remaining_from name (next st r) rs))
       go Pass e i = ends_on st r rs e i
-      go (Fault n p) e i = failing (record { before = []; here = r; behind = rs; split = refl; counted = refl; passes = tt; fails = e })
+      go (Err why) e i = failing (record { before = []; here = r; behind = rs; split = refl; counted = refl; passes = tt; fails = e })

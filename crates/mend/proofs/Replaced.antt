@@ -18,8 +18,7 @@ use Rattle.rebalance.proofs.Judged.{length-mended}
 use Rattle.changes.specs.Changes.{Place, changed_from, changes_of}
 use Rattle.changes.specs.Inner.{put_places, Beside}
 use Rattle.changes.proofs.Placed.{places-listed}
-use Rattle.mend.specs.declared.Mending.{Mending}
-use Rattle.mend.specs.declared.Mending.TheVariants.{Mended, Refused}
+use Rattle.mend.specs.Answers.{Mending, Mended, Refused}
 use Rattle.mend.specs.Mending.{listed_in, weighed, flow_by, list_by}
 use Rattle.mend.specs.Inner.{Copied}
 

@@ -12,14 +12,14 @@ use Rattle.text.specs.Numbers.{digit}
 use Rattle.layout.specs.Kinds.{type_in, kind_in}
 use Rattle.layout.specs.Fields.{delega_number, fields_of, value_of}
 use Rattle.layout.proofs.InOrder.{fields-in-order}
-use Rattle.amounts.specs.declared.Outcome.TheVariants.{Fault}
+use Rattle.refusal.specs.Outcomes.{Fails}
 use Rattle.amounts.proofs.Outcomes.{five-pass}
 use Rattle.order.specs.Order.{standing}
 use Rattle.rules.specs.State.{start_state}
 use Rattle.rules.specs.Checks.{char_fault, bad_fields, number_fault, fault}
 use Rattle.rules.specs.NonDigits.{FirstNonDigit}
 use Rattle.rules.proofs.NonDigits.{pass-exactly}
-use Rattle.judge.specs.declared.Verdict.TheVariants as Judged
+use Rattle.judge.specs.Refusal as Judged
 use Rattle.judge.specs.Refusal.{refusal_of}
 use Rattle.judge.specs.Part.{record_at}
 use Rattle.judge.specs.Flow.{records_of, head_name_of, judged}
@@ -33,8 +33,7 @@ use Rattle.lenient.proofs.VeryCharacter.{kept-seven-at}
 use Rattle.changes.specs.Changes.{changes_of}
 use Rattle.changes.specs.Listed.{record_behind}
 use Rattle.changes.proofs.Listed.{refreshed-length}
-use Rattle.mend.specs.declared.Mending.{Mending}
-use Rattle.mend.specs.declared.Mending.TheVariants.{Mended, Refused}
+use Rattle.mend.specs.Answers.{Mending, Mended, Refused}
 use Rattle.mend.specs.Mending.{refusal_mended, mending_of}
 use Rattle.mend.specs.WhenRefused.{FirstRemaining, Answers, TooLong, NotWhole, FaultAt, NoTail, NoFit, ShortList, IsRebalanced}
 use Rattle.mend.specs.Effect.{InListed}
@@ -104,7 +103,7 @@ mending-names-character f list {k} {p} e = way ((answered-exactly f list (Refuse
         let l = sized-at t.before t.here t.behind t.before (rw t.split at (sized-records f w.even)) in
         let h : record_behind f (k - 1) ≡ t.here =
         ap (record_behind f) (let z : k - 1 ≡ length t.before = omega (arith, t.counted) in z) ∙ (ap (λ (rs : List (List ℕ)). get_or rs (length t.before) []) t.split ∙ get_or-append_seam t.before t.here t.behind []) in
-        let x = kept-seven-at (head_name_of f) (state_after start_state t.before) t.here l (t.fails ∙ ap₂ Fault (number c) b) in
+        let x = kept-seven-at (head_name_of f) (state_after start_state t.before) t.here l (t.fails ∙ ap₂ Fails (number c) b) in
         (x.0, x.1, rw h x.2)
 
     way : {x : Mending} → Answers f list x → x ≡ Refused 7 k p → (i : ℕ) × (p ≡ i + 1) × FirstNonDigit (kept_fields (kind_in (record_behind f (k - 1)))) (record_behind f (k - 1)) i

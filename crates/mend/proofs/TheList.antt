@@ -1,4 +1,5 @@
 -- The list afterwards, number by number: record and start of each field that is listed, and past them what was there; and how long it must be.
+use Rattle.std.specs.Prelude.{Err}
 use Prim.Native.Nat.{ℕ, zero, suc, ◌+◌, ◌-◌, ◌*◌, ◌<◌, ◌≤◌}
 use mathlib.Core.Path.{◌≡◌, refl, sym, ap, ◌∙◌}
 use mathlib.Core.Bool.{false≢true}
@@ -13,8 +14,7 @@ use Rattle.judge.specs.Flow.{records_of, head_name_of}
 use Rattle.judge.proofs.OwnNumbers.{in-fault}
 use Rattle.changes.specs.Changes.{Place, place, changes_of, place_numbers}
 use Rattle.changes.proofs.Listed.{few-changes}
-use Rattle.mend.specs.declared.Mending.{Mending}
-use Rattle.mend.specs.declared.Mending.TheVariants.{Mended, Refused}
+use Rattle.mend.specs.Answers.{Mending, Mended, Refused}
 use Rattle.mend.specs.Mending.{refusal_mended, mending_of, mended_list}
 use Rattle.mend.specs.WhenRefused.{FirstRemaining, Answers, TooLong, NotWhole, FaultAt, NoTail, NoFit, ShortList, IsRebalanced}
 use Rattle.mend.proofs.Answered.{remaining-in, answered-exactly}
@@ -71,7 +71,7 @@ list_length f list = go (mending_of f list) refl
   where
     go : (m : Mending) → mending_of f list ≡ m → length (mended_list f list) ≡ length list
     go (Mended n) e = let b = rebalanced-when f list e in rw (list-is f list e) (omega (arith, length-append (place_numbers (changes_of f)) (drop (length (place_numbers (changes_of f))) list), length-drop (length (place_numbers (changes_of f))) list, counted f list e, b.room))
-    go (Refused n r p) e = ap length (list-by f list e)
+    go (Err why) e = ap length (list-by f list e)
 
 -- A list of 4,368 numbers, eight for each of 546 records, is never too short.
 pub long-list : (f list : List ℕ) {r p : ℕ} → 4368 ≤ length list → mending_of f list ≡ Refused 27 r p → ⊥

@@ -1,4 +1,5 @@
 -- What rebalancing changes: nothing outside the fields that are written; a field is listed exactly when its bytes differ, and every byte that changes lies in one that is.
+use Rattle.std.specs.Prelude.{Err}
 use Prim.Native.Nat.{ℕ, ◌+◌, ◌-◌, ◌/◌, ◌%◌, ◌<◌, ◌≤◌}
 use mathlib.Core.Path.{◌≡◌, refl, sym, ap, ◌∙◌}
 use mathlib.Core.Bool.{Bool, true, false, false≢true}
@@ -21,8 +22,7 @@ use Rattle.rebalance.proofs.Judged.{sized-records, flat-records}
 use Rattle.changes.specs.Changes.{written_fields, Place, place, changes_of}
 use Rattle.changes.specs.Listed.{record_behind, Listed, OneOf, first, later, Differs}
 use Rattle.changes.proofs.Listed.{refreshed-length, changed-exactly}
-use Rattle.mend.specs.declared.Mending.{Mending}
-use Rattle.mend.specs.declared.Mending.TheVariants.{Mended, Refused}
+use Rattle.mend.specs.Answers.{Mending, Mended, Refused}
 use Rattle.mend.specs.Mending.{mending_of, mended_flow}
 use Rattle.mend.specs.Effect.{may_change, InListed}
 use Rattle.mend.proofs.MendedFlow.{rebalanced-when, flow-by}
@@ -104,7 +104,7 @@ module _ (f list : List ℕ) where
     where
       go : (m : Mending) → mending_of f list ≡ m → C (mended_flow f list)
       go (Mended n) e = rw (flow-by f list e) (new (rebalanced-when f list e).mends.whole)
-      go (Refused n r p) e = rw (flow-by f list e) old
+      go (Err why) e = rw (flow-by f list e) old
 
   -- The flow keeps its length.
   pub mended-length : length (mended_flow f list) ≡ length f

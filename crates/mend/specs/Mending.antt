@@ -1,23 +1,23 @@
 -- Believed. Ask 6 of document 02: a flow whose lines are good is rebalanced, and the fields that change are listed; the refusals in their order; the flow and the list afterwards.
-use Rattle.std.specs.Prelude.{ℕ, ◌/◌, ◌%◌, cond, List, [], ◌∷◌, eqb, ltb, length}
+use Rattle.std.specs.Prelude.{ℕ, ◌/◌, ◌%◌, cond, List, [], ◌∷◌, eqb, ltb, length, Err}
 use Rattle.rules.specs.declared.State.{State}
 use Rattle.rules.specs.State.{start_state}
 use Rattle.rules.specs.Step.{next}
 use Rattle.state.specs.Numbers.{overlay}
-use Rattle.judge.specs.Refusal.{Refusal, refusal, no_refusal}
+use Rattle.refusal.specs.declared.Refusal.{Refusal}
+use Rattle.refusal.specs.Refusals.{refusal, no_refusal}
 use Rattle.judge.specs.Flow.{records_of, head_name_of}
 use Rattle.rebalance.specs.Rebalance.{refreshed, all_fit, kept_fault}
-use Rattle.lenient.specs.declared.Lenient.{Lenient}
-use Rattle.lenient.specs.declared.Lenient.TheVariants as Kept
+use Rattle.lenient.specs.Answers.{Lenient}
+use Rattle.lenient.specs.Answers as Kept
 use Rattle.lenient.specs.Lenient.{or_refused, ended}
 use Rattle.changes.specs.Changes.{Place, changes_of, place_numbers}
-use Rattle.mend.specs.declared.Mending.{Mending}
-use Rattle.mend.specs.declared.Mending.TheVariants.{Mended, Refused}
+use Rattle.mend.specs.Answers.{Mending, Mended, Refused}
 
 -- "A refusal is a number, a record counted from 1, and a position": that of an answer; a flow that is rebalanced has none
 abbrev pub refusal_mended : Mending → Refusal
 refusal_mended (Mended n) = no_refusal
-refusal_mended (Refused n r p) = refusal n r p
+refusal_mended (Err why) = refusal why.number why.«record» why.position
 
 -- "the first remaining fault of 01's checks", in records after those that led to a state: of each record those that rebalancing leaves alone, and 5 behind the last
 unfoldable pub remaining_from : List ℕ → State → List (List ℕ) → Lenient
@@ -42,7 +42,7 @@ weighed room f = cond (all_fit start_state (records_of f)) (listed_in room (leng
 -- a fault that remains, else what comes behind
 abbrev pub unless : Lenient → Mending → Mending
 unless Kept.Passed m = m
-unless (Kept.Refused n r p) m = Refused n r p
+unless (Err why) m = Refused why.number why.«record» why.position
 
 -- "Refusals ..: the first remaining fault of 01's checks, then 23, then 27": the answer to a flow and a list
 unfoldable pub mending_of : List ℕ → List ℕ → Mending
@@ -51,7 +51,7 @@ mending_of f list = unless (remaining f) (weighed (length list) f)
 -- "rewrites every total, sign, balance, final balance and tail value from the lines"; or, "with nothing written", as it came
 abbrev pub flow_by : Mending → List ℕ → List ℕ → List ℕ
 flow_by (Mended n) new old = new
-flow_by (Refused n r p) new old = old
+flow_by (Err why) new old = old
 
 -- the flow afterwards
 unfoldable pub mended_flow : List ℕ → List ℕ → List ℕ
@@ -60,7 +60,7 @@ mended_flow f list = flow_by (mending_of f list) (refreshed f) f
 -- "lists each field changed"; "a call that succeeds leaves so the lent room past what it writes", and a refusal all of it
 abbrev pub list_by : Mending → List Place → List ℕ → List ℕ
 list_by (Mended n) ps list = overlay (place_numbers ps) list
-list_by (Refused n r p) ps list = list
+list_by (Err why) ps list = list
 
 -- the list afterwards
 unfoldable pub mended_list : List ℕ → List ℕ → List ℕ

@@ -1,10 +1,9 @@
 -- For theorems. When a flow is refused, with which number, record and position, and when it is rebalanced.
 use Rattle.std.specs.Prelude.{ℕ, ◌+◌, ◌*◌, ◌%◌, ◌<◌, ◌≤◌, ◌≡◌, true, false, List, [], ◌∷◌, ◌++◌, ◌⊎◌, length}
-use Rattle.text.specs.declared.Characters.TheVariants.{Allowed, BadAt}
+use Rattle.text.specs.Answers.{Allowed, BadAt}
 use Rattle.text.specs.Characters.{first_bad}
 use Rattle.layout.specs.Kinds.{kind_in}
-use Rattle.amounts.specs.declared.Outcome.{Outcome}
-use Rattle.amounts.specs.declared.Outcome.TheVariants.{Pass, Fault}
+use Rattle.refusal.specs.Outcomes.{Outcome, Pass, Fails}
 use Rattle.amounts.specs.Outcomes.{first}
 use Rattle.order.specs.Stages.{after_tail}
 use Rattle.rules.specs.declared.State.{State}
@@ -16,13 +15,12 @@ use Rattle.judge.specs.Flow.{records_of, head_name_of}
 use Rattle.judge.specs.Plain.{Whole, state_after}
 use Rattle.rebalance.specs.Rebalance.{emit, all_fit, kept_fault}
 use Rattle.changes.specs.Changes.{changes_of}
-use Rattle.mend.specs.declared.Mending.{Mending}
-use Rattle.mend.specs.declared.Mending.TheVariants.{Mended, Refused}
+use Rattle.mend.specs.Answers.{Mending, Mended, Refused}
 
 -- "the first remaining fault of 01's checks" in one record, after a state: 3 of its bytes as they are, those of a rewritten field too; else what the judge says of the record once it is rebalanced, but for what it says
 -- of its stored fields, which are then wrong only where a value does not fit.
 pub data Remains (name : List ℕ) (st : State) (r : List ℕ) : Outcome → Type 0 where
-  BadCharacter : {i : ℕ} → first_bad r ≡ BadAt i → Remains name st r (Fault 3 (i + 1))
+  BadCharacter : {i : ℕ} → first_bad r ≡ BadAt i → Remains name st r (Fails 3 (i + 1))
   AsRebalanced : {o : Outcome} → first_bad r ≡ Allowed → fault name st (emit st r) ≡ first o (wrong (stored_of st (kind_in r)) (emit st r)) → Remains name st r o
 
 -- No fault remains in records.
@@ -38,7 +36,7 @@ pub record FirstRemaining (name : List ℕ) (st : State) (rs : List (List ℕ)) 
   pub split : rs ≡ before ++ (here ∷ behind)
   pub counted : k ≡ length before + 1
   pub passes : NoneRemains name st before
-  pub fails : kept_fault name (state_after st before) here ≡ Fault n p
+  pub fails : kept_fault name (state_after st before) here ≡ Fails n p
 
 -- No fault remains in a flow: its length is right, no record has one, and the last is EF.
 pub record Mends (f : List ℕ) : Type 0 where

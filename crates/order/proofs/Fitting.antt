@@ -2,7 +2,7 @@
 use Prim.Native.Nat.{ℕ}
 use mathlib.Core.Path.{◌≡◌, refl, sym}
 use mathlib.Core.Bool.{Bool, true, false, cond, not, false≢true}
-use Rattle.amounts.specs.declared.Outcome.TheVariants.{Pass, Fault}
+use Rattle.refusal.specs.Outcomes.{Pass, Fails}
 use Rattle.layout.specs.declared.RecordType.{RecordType}
 use Rattle.layout.specs.declared.Kind.{Kind}
 use Rattle.order.specs.declared.Stage.{Stage}
@@ -18,17 +18,17 @@ pub fits-passes : (p : Stage) (t : RecordType) (k : Kind) → fitting p k ≡ tr
 unfolding fitting standing
 fits-passes p t k = go (stands p k) (full p k)
   where
-    go : (a b : Bool) → cond a (cond b false true) false ≡ true → cond a (cond b (Fault 6 11) Pass) (cond (type_stands p t) (Fault 4 11) (Fault 4 2)) ≡ Pass
+    go : (a b : Bool) → cond a (cond b false true) false ≡ true → cond a (cond b (Fails 6 11) Pass) (cond (type_stands p t) (Fails 4 11) (Fails 4 2)) ≡ Pass
     go true true e = absurd (false≢true e)
     go true false e = refl
     go false b e = absurd (false≢true e)
 
 -- a record that does not fit fails one of them
-pub unfit-refused : (p : Stage) (t : RecordType) (k : Kind) → fitting p k ≡ false → (e : ℕ) × (q : ℕ) × (standing p t k ≡ Fault e q)
+pub unfit-refused : (p : Stage) (t : RecordType) (k : Kind) → fitting p k ≡ false → (e : ℕ) × (q : ℕ) × (standing p t k ≡ Fails e q)
 unfolding fitting standing
 unfit-refused p t k = go (stands p k) (full p k) (type_stands p t)
   where
-    go : (a b d : Bool) → cond a (cond b false true) false ≡ false → (e : ℕ) × (q : ℕ) × (cond a (cond b (Fault 6 11) Pass) (cond d (Fault 4 11) (Fault 4 2)) ≡ Fault e q)
+    go : (a b d : Bool) → cond a (cond b false true) false ≡ false → (e : ℕ) × (q : ℕ) × (cond a (cond b (Fails 6 11) Pass) (cond d (Fails 4 11) (Fails 4 2)) ≡ Fails e q)
     go true true d f = (6, 11, refl)
     go true false d f = absurd (false≢true (sym f))
     go false b true f = (4, 11, refl)

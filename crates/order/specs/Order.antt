@@ -8,8 +8,7 @@ use Rattle.layout.specs.declared.RecordType.TheVariants.{F4, T10, T20, T40, T50,
 use Rattle.layout.specs.Sections.{section_at}
 use Rattle.layout.specs.Kinds.{of_line}
 use Rattle.order.specs.declared.Stage.{Stage}
-use Rattle.amounts.specs.declared.Outcome.{Outcome}
-use Rattle.amounts.specs.declared.Outcome.TheVariants.{Pass, Fault}
+use Rattle.refusal.specs.Outcomes.{Outcome, Pass, Fails}
 use Rattle.order.specs.Stages.{stage_at, at_start, after_head, after_taxpayer, after_domicile, after_line, after_balance, after_payment, after_receipt, after_addressee, after_tail}
 
 -- "A delega is one record 10, one record 20, one or more sections, one record 50-01, then at most one 50-02 and, after a 50-02 only, at most one 50-03";
@@ -62,7 +61,7 @@ fitting p k = cond (stands p k) (cond (full p k) false true) false
 -- 4, "record may not stand here": position "2 if no record that may stand here has its type, else 11"; then 6 at 11
 unfoldable pub standing : Stage → RecordType → Kind → Outcome
 standing p t k =
-    cond (stands p k) (cond (full p k) (Fault 6 11) Pass) (cond (type_stands p t) (Fault 4 11) (Fault 4 2))
+    cond (stands p k) (cond (full p k) (Fails 6 11) Pass) (cond (type_stands p t) (Fails 4 11) (Fails 4 2))
 
 -- the stage after a record
 abbrev pub next_stage : Stage → Kind → Stage

@@ -6,8 +6,8 @@ ghost use Rattle.order.specs.Stages.{stage_at};
 ghost use Rattle.text.specs.Among.{among};
 ghost use Rattle.order.specs.Order.{next_stage, stands, section_stands, type_stands, full, fitting, standing};
 
-use amounts::Outcome;
 use layout::{Kind, Position, RecordType};
+use refusal::Fault;
 
 // The stage in the order of records: what the last record was, and for a line or a balance of which section; the open section's lines.
 #[derive(Clone, Copy)]
@@ -177,19 +177,28 @@ pub fn fits(p: Stage, k: Kind) -> bool
 }
 
 // Checks 4 and 6.
-pub fn standing_of(p: Stage, t: RecordType, k: Kind) -> Outcome
+pub fn standing_of(p: Stage, t: RecordType, k: Kind) -> Result<(), Fault>
     ensures { result ≡ standing p t k }
 {
     if may_stand(p, k) {
         if is_full(p, k) {
-            return Outcome::Fault(6, Position::SUBTYPE);
+            return Err(Fault {
+                number: 6,
+                position: Position::SUBTYPE,
+            });
         }
-        return Outcome::Pass;
+        return Ok(());
     }
     if type_stands(p, t) {
-        return Outcome::Fault(4, Position::SUBTYPE);
+        return Err(Fault {
+            number: 4,
+            position: Position::SUBTYPE,
+        });
     }
-    Outcome::Fault(4, Position::TYPE)
+    Err(Fault {
+        number: 4,
+        position: Position::TYPE,
+    })
 }
 
 // The stage after a record of kind k.

@@ -1,4 +1,5 @@
 -- What a call hands back passes the bounds again, so that the next call goes on from it or gives its answer again.
+use Rattle.std.specs.Prelude.{Err}
 use Prim.Native.Nat.{ℕ, ◌+◌, ◌-◌, ◌*◌, ◌/◌, ◌<◌, ◌≤◌}
 use mathlib.Core.Path.{◌≡◌, refl, ap, ◌∙◌}
 use mathlib.Core.Bool.{Bool, true, false, cond}
@@ -9,8 +10,7 @@ use borrow.Author.Tests.{le-ltb, le-leb, lt-leb, eq-eqb, ne_eqb}
 use lib.Dec.{eqb, ltb, leb}
 use lib.ListN.{length, take}
 use Rattle.text.proofs.Tests.{either_way}
-use Rattle.amounts.specs.declared.Outcome.{Outcome}
-use Rattle.amounts.specs.declared.Outcome.TheVariants.{Pass, Fault}
+use Rattle.refusal.specs.Outcomes.{Outcome, Pass, Fails}
 use Rattle.amounts.specs.declared.Sums.{Sums}
 use Rattle.order.specs.Stages.{after_tail}
 use Rattle.rules.specs.declared.State.{State}
@@ -78,9 +78,9 @@ closing-right st = go (eqb st.stage.phase after_tail)
     go false = five-refusable st.seen
 
 -- how the judgement stands after a run is such as a judgement can stand
-course-so : (n : ℕ) (o : Outcome) (st : State) → ((e p : ℕ) → o ≡ Fault e p → Numbered 3 e) → ((e p : ℕ) → o ≡ Fault e p → st.seen < 546) → course_right st.seen (course_after n o st) ≡ true
+course-so : (n : ℕ) (o : Outcome) (st : State) → ((e p : ℕ) → o ≡ Fails e p → Numbered 3 e) → ((e p : ℕ) → o ≡ Fails e p → st.seen < 546) → course_right st.seen (course_after n o st) ≡ true
 course-so n Pass st f g = either_way (λ (c : Course). course_right st.seen c ≡ true) (ltb st.seen n) Going (ended_by (closing st).verdict) refl (closing-right st)
-course-so n (Fault e p) st f g = record-refusable st.seen e p (g e p refl) (f e p refl)
+course-so n (Err why) st f g = record-refusable st.seen why.number why.position (g why.number why.position refl) (f why.number why.position refl)
 
 -- the run that a call makes
 module _ (s : List ℕ) (p : ℕ) (x : Progress) (y : possible x ≡ true) (g : Goes s x) where
@@ -106,12 +106,12 @@ module _ (s : List ℕ) (p : ℕ) (x : Progress) (y : possible x ≡ true) (g : 
   pub stood : Stands now.fault seen (last_of seen p count - seen) now.state.seen
   stood = rw (allowed-length s seen p ahead) at (ran-stands (held_name s x) (state_of x.kept) (allowed s p x))
 
-  pub reaches : (now.state.seen ≤ count) × ((e q : ℕ) → now.fault ≡ Fault e q → now.state.seen < count)
+  pub reaches : (now.state.seen ≤ count) × ((e q : ℕ) → now.fault ≡ Fails e q → now.state.seen < count)
   reaches = go now.fault refl stood
     where
-      go : (o : Outcome) → now.fault ≡ o → Stands o seen (last_of seen p count - seen) now.state.seen → (now.state.seen ≤ count) × ((e q : ℕ) → now.fault ≡ Fault e q → now.state.seen < count)
+      go : (o : Outcome) → now.fault ≡ o → Stands o seen (last_of seen p count - seen) now.state.seen → (now.state.seen ≤ count) × ((e q : ℕ) → now.fault ≡ Fails e q → now.state.seen < count)
       go Pass e h = let w = last_within seen p count ahead in (omega arith, λ a q f. let z : ◌≡◌ {A = ℕ} 0 1 = cc in absurd (omega arith))
-      go (Fault a b) e h = let w = last_within seen p count ahead in (omega arith, λ e q f. omega arith)
+      go (Err why) e h = let w = last_within seen p count ahead in (omega arith, λ e q f. omega arith)
 
   pub now-back : state_of (state_numbers now.state) ≡ now.state
   now-back = kept_back now.state stays.below.money-below.delegas.five stays.below.money-below.flows.five

@@ -1,4 +1,5 @@
 -- What a call may depend on: "From the same state and portion, two flows of one length that agree in the records the call examines get the same answer and the same new state".
+use Rattle.std.specs.Prelude.{Err}
 use Prim.Native.Nat.{ℕ, ◌+◌, ◌-◌, ◌*◌, ◌/◌, ◌<◌, ◌≤◌}
 use mathlib.Core.Path.{◌≡◌, refl, sym, ap, ap₂, ◌∙◌}
 use mathlib.Core.Bool.{Bool, true, false}
@@ -9,8 +10,7 @@ use borrow.Author.Tests.{eq-eqb, ne_eqb}
 use lib.ListN.{length, take, drop}
 use lib.Seq.{take-take}
 use Rattle.layout.specs.Fields.{support_name, bytes_of}
-use Rattle.amounts.specs.declared.Outcome.{Outcome}
-use Rattle.amounts.specs.declared.Outcome.TheVariants.{Pass, Fault}
+use Rattle.refusal.specs.Outcomes.{Outcome, Pass, Fails}
 use Rattle.rules.specs.declared.State.{State}
 use Rattle.rules.specs.Checks.{fault}
 use Rattle.rules.specs.Step.{next}
@@ -46,7 +46,7 @@ same-run name st (r ∷ rs) (t ∷ ts) l e = go (fault name st r) refl e (λ h. 
         let a : r ≡ t = cc in
         let b : take (steps name (next st r) rs) rs ≡ take (steps name (next st r) rs) ts = cc in
         ap₂ (λ (i : List ℕ) (x : Run). stopped (fault name st i) st x) a (on b ∙ ap (λ (i : List ℕ). ran name (next st i) ts) a)
-    go (Fault c d) f h on =
+    go (Fails c d) f h on =
         let a : r ≡ t = cc in
         ap (λ (o : Outcome). stopped o st (ran name (next st r) rs)) f ∙ sym (ap (λ (o : Outcome). stopped o st (ran name (next st t) ts)) (ap (fault name st) (sym a) ∙ f))
 
@@ -96,7 +96,7 @@ module _ (s t : List ℕ) (l : length s ≡ length t) (p : ℕ) (x : Progress) w
         where
           one : (o : Outcome) (i : ℕ) → 0 < one_more o i
           one Pass i = omega arith
-          one (Fault e q) i = omega arith
+          one (Err why) i = omega arith
 
           go : (rs : List (List ℕ)) → 0 < length rs → 0 < steps (held_name s x) (state_of x.kept) rs
           go [] h = absurd (omega arith)

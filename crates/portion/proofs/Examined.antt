@@ -1,4 +1,5 @@
 -- How many records a call examines: as many as its definition steps over, never more than it is allowed, never more than 546 in all.
+use Rattle.std.specs.Prelude.{Err}
 use Prim.Native.Nat.{ℕ, suc, ◌+◌, ◌/◌, ◌<◌, ◌≤◌}
 use mathlib.Core.Path.{◌≡◌, refl, sym, ap, ◌∙◌}
 use mathlib.Core.Bool.{Bool, true, false, cond, false≢true}
@@ -9,8 +10,7 @@ use borrow.Author.Tests.{eq-eqb, ne_eqb, eqb-true, leb-true}
 use lib.Dec.{eqb, ltb, leb}
 use lib.ListN.{length, take}
 use Rattle.text.proofs.Tests.{both_true}
-use Rattle.amounts.specs.declared.Outcome.{Outcome}
-use Rattle.amounts.specs.declared.Outcome.TheVariants.{Pass, Fault}
+use Rattle.refusal.specs.Outcomes.{Outcome, Pass, Fails}
 use Rattle.order.specs.Stages.{after_tail}
 use Rattle.rules.specs.declared.State.{State}
 use Rattle.rules.specs.Checks.{fault}
@@ -38,7 +38,7 @@ use Rattle.portion.proofs.Ways as way
 -- the records that a run steps over are those that have passed, and the one that has not
 abbrev Counted : Outcome → ℕ → ℕ → Type 0
 Counted Pass n m = n ≡ m
-Counted (Fault e p) n m = n ≡ m + 1
+Counted (Err why) n m = n ≡ m + 1
 
 ran-steps : (name : List ℕ) (st : State) (rs : List (List ℕ)) → Counted (ran name st rs).fault (st.seen + steps name st rs) (ran name st rs).state.seen
 unfolding ran steps next
@@ -47,11 +47,11 @@ ran-steps name st (r ∷ rs) = go (fault name st r) (ran name (next st r) rs) (r
   where
     on : (o : Outcome) (m : ℕ) → Counted o ((next st r).seen + steps name (next st r) rs) m → Counted o (st.seen + suc (steps name (next st r) rs)) m
     on Pass m h = omega arith
-    on (Fault e p) m h = omega arith
+    on (Err why) m h = omega arith
 
     go : (o : Outcome) (x : Run) → Counted x.fault ((next st r).seen + steps name (next st r) rs) x.state.seen → Counted (stopped o st x).fault (st.seen + one_more o (steps name (next st r) rs)) (stopped o st x).state.seen
     go Pass x h = on x.fault x.state.seen h
-    go (Fault e p) x h = refl
+    go (Err why) x h = refl
 
 pub steps-most : (name : List ℕ) (st : State) (rs : List (List ℕ)) → steps name st rs ≤ length rs
 unfolding steps
@@ -60,7 +60,7 @@ steps-most name st (r ∷ rs) = go (fault name st r) (steps-most name (next st r
   where
     go : (o : Outcome) → steps name (next st r) rs ≤ length rs → one_more o (steps name (next st r) rs) ≤ suc (length rs)
     go Pass h = omega arith
-    go (Fault e p) h = omega arith
+    go (Err why) h = omega arith
 
 -- acceptance and refusal 5 have all records examined
 pub closing-examined : (st : State) (n : ℕ) → examined_by (ended_by (closing st).verdict) n ≡ n
@@ -71,13 +71,13 @@ closing-examined st n = go (eqb st.stage.phase after_tail)
     go true = refl
     go false = refl
 
-course-examined : (n : ℕ) (o : Outcome) (st : State) (m : ℕ) → Counted o m st.seen → ((e p : ℕ) → o ≡ Fault e p → e ≡ 5 → ⊥) → examined_by (course_after n o st) st.seen ≡ m
+course-examined : (n : ℕ) (o : Outcome) (st : State) (m : ℕ) → Counted o m st.seen → ((e p : ℕ) → o ≡ Fails e p → e ≡ 5 → ⊥) → examined_by (course_after n o st) st.seen ≡ m
 course-examined n Pass st m h f = go (ltb st.seen n) ∙ sym h
   where
     go : (t : Bool) → examined_by (cond t Going (ended_by (closing st).verdict)) st.seen ≡ st.seen
     go true = refl
     go false = closing-examined st st.seen
-course-examined n (Fault e p) st m h f = rw (ne_eqb e 5 (f e p refl)) (sym h)
+course-examined n (Err why) st m h f = rw (ne_eqb why.number 5 (f why.number why.position refl)) (sym h)
 
 -- a call that goes on: "The examined count is a result field, equal to the definition's record steps"
 module _ (s : List ℕ) (p : ℕ) (x : Progress) (y : possible x ≡ true) (c : x.course ≡ Going) (w : Whole s) (m : (state_of x.kept).seen < length s / 120) where

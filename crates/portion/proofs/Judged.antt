@@ -1,4 +1,5 @@
 -- From the start, a call whose portion reaches the last record that is needed gives the judgement, and no smaller one does.
+use Rattle.std.specs.Prelude.{Err}
 use Prim.Native.Nat.{ℕ, zero, suc, ◌+◌, ◌-◌, ◌*◌, ◌/◌, ◌<◌, ◌≤◌}
 use mathlib.Core.Path.{◌≡◌, refl, sym, ap, ap₂, ◌∙◌}
 use mathlib.Core.Bool.{Bool, true, false, cond}
@@ -10,8 +11,7 @@ use borrow.Author.Tests.{lt-ltb, le-ltb, ne_eqb}
 use lib.Dec.{eqb}
 use lib.ListN.{length, take, drop, drop_of_length-le}
 use lib.Seq.{take_all}
-use Rattle.amounts.specs.declared.Outcome.{Outcome}
-use Rattle.amounts.specs.declared.Outcome.TheVariants.{Pass, Fault}
+use Rattle.refusal.specs.Outcomes.{Outcome, Pass, Fails}
 use Rattle.order.specs.Stages.{after_tail}
 use Rattle.rules.specs.declared.State.{State}
 use Rattle.rules.specs.State.{start_state}
@@ -95,7 +95,7 @@ module _ (s : List ℕ) (w : Whole s) where
   lasts = length-chunks (count - start_state.seen) (drop (start_state.seen * 120) s) ∙ (let z = start_seen in omega arith)
 
   -- what it needs
-  need-fault : {e k : ℕ} → all.fault ≡ Fault e k → needed s ≡ all.state.seen + 1
+  need-fault : {e k : ℕ} → all.fault ≡ Fails e k → needed s ≡ all.state.seen + 1
   unfolding needed
   need-fault {e} {k} f =
       let n = ran-numbered (head_name_of s) start_state (rest_of s start_state.seen) f in
@@ -132,15 +132,15 @@ module _ (s : List ℕ) (w : Whole s) where
     zero_seen = ap (λ (t : State). t.seen) start-state ∙ start_seen
 
     -- stopped at a record: it is the one that is needed
-    at-fault : (p ≡ 0 → ⊥) → {e k : ℕ} → now.fault ≡ Fault e k → Given s (portioned s p start_progress) × (needed s ≤ p)
+    at-fault : (p ≡ 0 → ⊥) → {e k : ℕ} → now.fault ≡ Fails e k → Given s (portioned s p start_progress) × (needed s ≤ p)
     at-fault n {e} {k} f =
         let a : all ≡ now = all-is ∙ ap (λ (o : Outcome). resumed o now rest) f in
-        let fa : all.fault ≡ Fault e k = ap (λ (z : Run). z.fault) a ∙ f in
+        let fa : all.fault ≡ Fails e k = ap (λ (z : Run). z.fault) a ∙ f in
         let sa : all.state.seen ≡ now.state.seen = ap (λ (z : Run). z.state.seen) a in
         let d = need-fault fa in
         let m = ran-numbered (head_name_of s) start_state (rest_of s start_state.seen) fa in
         let j : judged s ≡ refused_with e (now.state.seen + 1) k = judged-all ∙ ap₂ (λ (o : Outcome) (t : State). after o t.seen (closing t)) fa (ap (λ (z : Run). z.state) a) in
-        let t : Stands (Fault e k) (state_of start_progress.kept).seen (last_of (state_of start_progress.kept).seen p count - (state_of start_progress.kept).seen) now.state.seen = rw f at (stood s p start_progress start-possible goes) in
+        let t : Stands (Fails e k) (state_of start_progress.kept).seen (last_of (state_of start_progress.kept).seen p count - (state_of start_progress.kept).seen) now.state.seen = rw f at (stood s p start_progress start-possible goes) in
         let l = last_within (state_of start_progress.kept).seen p count (let g = goes.more in omega arith) in
         let z = zero_seen in
         (rw (answers n, f, j, ne_eqb e 5 m.not_five) (refl, sym (d ∙ ap (λ (i : ℕ). i + 1) sa), refl), omega arith)
@@ -176,9 +176,9 @@ module _ (s : List ℕ) (w : Whole s) where
       where
         needs : (o : Outcome) → all.fault ≡ o → all.state.seen ≡ rest.state.seen → all.fault ≡ rest.fault → Stands rest.fault now.state.seen (length (take count (drop p (rest_of s start_state.seen)))) rest.state.seen → p < needed s
         needs Pass g b c t = let d = need-all g in let z = zero_seen in let u = further s p 0 start_progress start-possible goes n f h in omega arith
-        needs (Fault e k) g b c t =
+        needs (Fails e k) g b c t =
             let d = need-fault g in
-            let v : Stands (Fault e k) now.state.seen (length (take count (drop p (rest_of s start_state.seen)))) rest.state.seen = rw (sym c ∙ g) at t in
+            let v : Stands (Fails e k) now.state.seen (length (take count (drop p (rest_of s start_state.seen)))) rest.state.seen = rw (sym c ∙ g) at t in
             let z = zero_seen in
             let u = further s p 0 start_progress start-possible goes n f h in
             omega arith
@@ -188,7 +188,7 @@ module _ (s : List ℕ) (w : Whole s) where
     decided n = go now.fault refl (dec_lt now.state.seen count)
       where
         go : (o : Outcome) → now.fault ≡ o → Dec (now.state.seen < count) → (Given s (portioned s p start_progress) × (needed s ≤ p)) ⊎ (NotYet p (portioned s p start_progress) × (p < needed s))
-        go (Fault e k) f d = inl (at-fault n f)
+        go (Err why) f d = inl (at-fault n f)
         go Pass f (yes h) = inr (on-the-way n f h)
         go Pass f (no d) = inl (at-end n f (omega arith))
 
@@ -197,7 +197,7 @@ module _ (s : List ℕ) (w : Whole s) where
     where
       go : (o : Outcome) → all.fault ≡ o → 0 < needed s
       go Pass f = let d = need-all f in let r = records in omega arith
-      go (Fault e k) f = let d = need-fault f in omega arith
+      go (Err why) f = let d = need-fault f in omega arith
 
 -- by the length of the flow: refused at once, or judged
 pub enough : (s : List ℕ) (p : ℕ) → needed s ≤ p → Given s (portioned s p start_progress)

@@ -7,8 +7,7 @@ use native.Mathlib.Omega.{arith}
 use native.Mathlib.Decide.{dec_le, ℕ_discrete}
 use borrow.Author.Tests.{lt-ltb, le-leb, lt-leb, eq-eqb, ne_eqb}
 use lib.ListN.{length, take, drop, drop_of_length-le}
-use Rattle.amounts.specs.declared.Outcome.{Outcome}
-use Rattle.amounts.specs.declared.Outcome.TheVariants.{Pass, Fault}
+use Rattle.refusal.specs.Outcomes.{Outcome, Pass, Fails}
 use Rattle.rules.specs.declared.State.{State}
 use Rattle.state.specs.Numbers.{state_numbers, state_of}
 use Rattle.judge.specs.Flow.{rest_of}
@@ -55,7 +54,7 @@ module _ (s : List ℕ) (p q : ℕ) (x : Progress) (y : possible x ≡ true) (g 
   some e = n (omega arith)
 
   -- a run that has stopped stays where it is
-  pub stopped-there : {e r : ℕ} → now.fault ≡ Fault e r → went_on s (p + q) x ≡ went_on s p x
+  pub stopped-there : {e r : ℕ} → now.fault ≡ Fails e r → went_on s (p + q) x ≡ went_on s p x
   stopped-there f = went-from s (p + q) x now some (both ∙ ap (λ (o : Outcome). resumed o now on) f) ∙ sym (went s p x n)
 
   -- so does one that has come to the end

@@ -1,4 +1,5 @@
 -- How far a portion reaches: the records that it allows, as a part of the flow, and where a run over them stands.
+use Rattle.std.specs.Prelude.{Err}
 use Prim.Native.Nat.{ℕ, zero, suc, ◌+◌, ◌-◌, ◌*◌, ◌/◌, ◌<◌, ◌≤◌}
 use mathlib.Core.Path.{◌≡◌, refl, sym, ap, ap₂, ◌∙◌}
 use mathlib.Core.List.{List, [], ◌∷◌}
@@ -7,13 +8,12 @@ use native.Mathlib.Decide.{dec_le}
 use borrow.Author.Tests.{lt-ltb, le-ltb, le-leb, lt-leb, ne_eqb}
 use lib.ListN.{length, take, drop, get_or}
 use lib.Seq.{take-take, take_all, length-take-le}
-use Rattle.amounts.specs.declared.Outcome.{Outcome}
-use Rattle.amounts.specs.declared.Outcome.TheVariants.{Pass, Fault}
+use Rattle.refusal.specs.Outcomes.{Outcome, Pass, Fails}
 use Rattle.rules.specs.declared.State.{State}
 use Rattle.rules.specs.Checks.{fault}
 use Rattle.rules.specs.Step.{next}
 use Rattle.state.specs.Numbers.{state_of, state_numbers}
-use Rattle.judge.specs.declared.Verdict.{Verdict}
+use Rattle.judge.specs.Refusal.{Verdict}
 use Rattle.judge.specs.declared.Judgement.{Judgement}
 use Rattle.judge.specs.Flow.{judged_from, chunks, rest_of}
 use Rattle.judge.specs.Run.{Run, stopped, ran, answer_of}
@@ -92,7 +92,7 @@ module _ (s : List ℕ) (k p : ℕ) (h : k ≤ length s / 120) where
 -- where a run stands: behind all records that have passed, or before the one that has not
 abbrev pub Stands : Outcome → ℕ → ℕ → ℕ → Type 0
 Stands Pass k n m = m ≡ k + n
-Stands (Fault e p) k n m = (k ≤ m) × (m < k + n)
+Stands (Err why) k n m = (k ≤ m) × (m < k + n)
 
 pub ran-stands : (name : List ℕ) (st : State) (rs : List (List ℕ)) → Stands (ran name st rs).fault st.seen (length rs) (ran name st rs).state.seen
 unfolding ran next
@@ -101,16 +101,16 @@ ran-stands name st (r ∷ rs) = go (fault name st r) (ran name (next st r) rs) (
   where
     on : (o : Outcome) (m : ℕ) → Stands o (next st r).seen (length rs) m → Stands o st.seen (suc (length rs)) m
     on Pass m h = omega arith
-    on (Fault e p) m h = (omega arith, omega arith)
+    on (Err why) m h = (omega arith, omega arith)
 
     go : (o : Outcome) (x : Run) → Stands x.fault (next st r).seen (length rs) x.state.seen → Stands (stopped o st x).fault st.seen (suc (length rs)) (stopped o st x).state.seen
     go Pass x h = on x.fault x.state.seen h
-    go (Fault e p) x h = (omega arith, omega arith)
+    go (Err why) x h = (omega arith, omega arith)
 
 -- how the judgement stands then, by the judgement of the records up to the last that is allowed
 pub course-is : (o : Outcome) (st : State) (k l n : ℕ) → k ≤ l → Stands o k (l - k) st.seen → course_by (answer_of (record { fault = o; state = st })).verdict st.seen l n ≡ course_after n o st
 course-is Pass st k l n g h = let e : st.seen ≡ l = omega arith in rw (le-ltb st.seen l (omega arith), e)
-course-is (Fault e p) st k l n g h = rw (lt-ltb st.seen l (omega arith))
+course-is (Err why) st k l n g h = rw (lt-ltb st.seen l (omega arith))
 
 -- so what the judgement of those records tells is what is handed back
 module _ (s : List ℕ) (p : ℕ) (x : Progress) (h : (state_of x.kept).seen ≤ length s / 120) (n : p ≡ 0 → ⊥) where

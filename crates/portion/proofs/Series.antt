@@ -1,4 +1,5 @@
 -- Any series of portions is one call with their sum.
+use Rattle.std.specs.Prelude.{Err}
 use Prim.Native.Nat.{ℕ, ◌+◌, ◌/◌, ◌<◌, ◌≤◌}
 use mathlib.Core.Path.{◌≡◌, refl, sym, ap, ◌∙◌}
 use mathlib.Core.Bool.{Bool, true, false}
@@ -7,12 +8,11 @@ use native.Mathlib.Omega.{arith}
 use native.Mathlib.Decide.{dec_lt, ℕ_discrete}
 use borrow.Author.Tests.{le-ltb}
 use lib.ListN.{length}
-use Rattle.amounts.specs.declared.Outcome.{Outcome}
-use Rattle.amounts.specs.declared.Outcome.TheVariants.{Pass, Fault}
+use Rattle.refusal.specs.Outcomes.{Outcome, Pass, Fails}
 use Rattle.rules.specs.declared.State.{State}
 use Rattle.state.specs.Numbers.{state_of}
-use Rattle.judge.specs.declared.Verdict.{Verdict}
-use Rattle.judge.specs.declared.Verdict.TheVariants as Judged
+use Rattle.judge.specs.Refusal.{Verdict}
+use Rattle.judge.specs.Refusal as Judged
 use Rattle.judge.specs.Flow.{closing}
 use Rattle.judge.specs.Plain.{Whole}
 use Rattle.judge.proofs.FirstFault.{Sized, sized}
@@ -32,7 +32,7 @@ use Rattle.portion.proofs.Ways as way
 -- "An ended state gives its answer again"
 pub ended-again : (s : List ℕ) (p : ℕ) (x : Progress) (v : Verdict) → possible x ≡ true → x.course ≡ ended_by v → portioned s p x ≡ told x
 ended-again s p x Judged.Accepted y e = way.by-course s p x Accepted y e
-ended-again s p x (Judged.Refused n r k) y e = way.by-course s p x (Refused n r k) y e
+ended-again s p x (Err why) y e = way.by-course s p x (Refused why.number why.«record» why.position) y e
 
 -- a call with a state that goes on, by the length of the flow
 module _ (s : List ℕ) (x : Progress) (y : possible x ≡ true) (c : x.course ≡ Going) where
@@ -58,7 +58,7 @@ module _ (s : List ℕ) (x : Progress) (y : possible x ≡ true) (c : x.course �
     then e = ap (λ (a : Portion). portioned s q a.next) (on p w m) ∙ (e ∙ sym (on (p + q) w m))
 
     by-run : (p ≡ 0 → ⊥) → (o : Outcome) → (examining s p x).fault ≡ o → Dec ((examining s p x).state.seen < length s / 120) → portioned s q (went_on s p x) ≡ told (went_on s (p + q) x)
-    by-run n (Fault e k) f d =
+    by-run n (Fails e k) f d =
         ended-again s q (went_on s p x) (Judged.Refused e ((examining s p x).state.seen + 1) k) (went-sound s p x y (goes w m) n) (ap (λ (z : Progress). z.course) (went s p x n) ∙ ap (λ (z : Outcome). course_after (length s / 120) z (examining s p x).state) f)
         ∙ ap told (sym (stopped-there s p q x y (goes w m) n f))
     by-run n Pass f (no d) =

@@ -1,12 +1,12 @@
 -- Runs over records one after the other: the first part and then the rest are the whole, and what has stopped stays where it is.
+use Rattle.std.specs.Prelude.{Err}
 use Prim.Native.Nat.{ℕ, zero, suc, ◌+◌, ◌-◌, ◌*◌, ◌/◌}
 use mathlib.Core.Path.{◌≡◌, refl, ap, ◌∙◌}
 use mathlib.Core.List.{List, [], ◌∷◌}
 use native.Mathlib.Omega.{arith}
 use lib.ListN.{length, take, drop}
 use lib.Seq.{drop-drop}
-use Rattle.amounts.specs.declared.Outcome.{Outcome}
-use Rattle.amounts.specs.declared.Outcome.TheVariants.{Pass, Fault}
+use Rattle.refusal.specs.Outcomes.{Outcome, Pass, Fails}
 use Rattle.rules.specs.declared.State.{State}
 use Rattle.rules.specs.Checks.{fault}
 use Rattle.rules.specs.Step.{next}
@@ -16,7 +16,7 @@ use Rattle.judge.specs.Run.{Run, stopped, ran}
 -- a run that goes on where another has passed
 abbrev pub resumed : Outcome → Run → Run → Run
 resumed Pass x y = y
-resumed (Fault e p) x y = x
+resumed (Err why) x y = x
 
 -- p records, and then q of those behind them, are p + q records
 pub run_on : (name : List ℕ) (p q : ℕ) (st : State) (rs : List (List ℕ)) →
@@ -35,7 +35,7 @@ run_on name (suc p) q st (r ∷ rs) =
         ran name (next st r) (take (p + q) rs) ≡ resumed (ran name (next st r) (take p rs)).fault (ran name (next st r) (take p rs)) (ran name (ran name (next st r) (take p rs)).state (take q (drop p rs))) →
         stopped o st (ran name (next st r) (take (p + q) rs)) ≡ resumed (stopped o st (ran name (next st r) (take p rs))).fault (stopped o st (ran name (next st r) (take p rs))) (ran name (stopped o st (ran name (next st r) (take p rs))).state (take q (drop p rs)))
     go Pass e = e
-    go (Fault e p) h = refl
+    go (Err why) h = refl
 
 -- the records left after k and then p more
 pub rest-on : (s : List ℕ) (k p : ℕ) → drop p (rest_of s k) ≡ rest_of s (k + p)

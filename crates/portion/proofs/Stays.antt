@@ -1,4 +1,5 @@
 -- What a run keeps within the bounds, and which numbers its fault may have.
+use Rattle.std.specs.Prelude.{Err}
 use Prim.Native.Nat.{ℕ, zero, suc, ◌-◌, ◌*◌, ◌/◌, ◌<◌, ◌≤◌}
 use mathlib.Core.Path.{◌≡◌, refl, ◌∙◌}
 use mathlib.Core.List.{List, [], ◌∷◌}
@@ -9,8 +10,7 @@ use Rattle.layout.specs.declared.Kind.{Kind}
 use Rattle.layout.specs.declared.Kind.TheVariants.{Head, Taxpayer, Domicile, Line, Balance, Payment, Receipt, Addressee, Tail, Unknown}
 use Rattle.layout.specs.Kinds.{kind_in}
 use Rattle.layout.proofs.InTable.{section_of, section-within}
-use Rattle.amounts.specs.declared.Outcome.{Outcome}
-use Rattle.amounts.specs.declared.Outcome.TheVariants.{Pass, Fault}
+use Rattle.refusal.specs.Outcomes.{Outcome, Pass, Fails}
 use Rattle.order.specs.declared.Stage.{Stage}
 use Rattle.order.specs.Order.{next_stage}
 use Rattle.rules.specs.declared.State.{State}
@@ -72,13 +72,13 @@ ran-stays name st (r ∷ rs) (also l w) g = go (fault name st r) (ran-stays name
   where
     go : (o : Outcome) → Stays (ran name (next st r) rs).state → Stays (stopped o st (ran name (next st r) rs)).state
     go Pass h = h
-    go (Fault e p) h = g
+    go (Err why) h = g
 
-pub ran-numbered : (name : List ℕ) (st : State) (rs : List (List ℕ)) {e p : ℕ} → (ran name st rs).fault ≡ Fault e p → Numbered 3 e
+pub ran-numbered : (name : List ℕ) (st : State) (rs : List (List ℕ)) {e p : ℕ} → (ran name st rs).fault ≡ Fails e p → Numbered 3 e
 unfolding ran
 ran-numbered name st [] f = let z : ◌≡◌ {A = ℕ} 0 1 = cc in absurd (omega arith)
 ran-numbered name st (r ∷ rs) {e} {p} f = go (fault name st r) refl (λ h. ran-numbered name (next st r) rs h) f
   where
-    go : (o : Outcome) → fault name st r ≡ o → ((ran name (next st r) rs).fault ≡ Fault e p → Numbered 3 e) → (stopped o st (ran name (next st r) rs)).fault ≡ Fault e p → Numbered 3 e
+    go : (o : Outcome) → fault name st r ≡ o → ((ran name (next st r) rs).fault ≡ Fails e p → Numbered 3 e) → (stopped o st (ran name (next st r) rs)).fault ≡ Fails e p → Numbered 3 e
     go Pass h on f = on f
-    go (Fault a b) h on f = fault-number name st r (h ∙ f)
+    go (Err why) h on f = fault-number name st r (h ∙ f)

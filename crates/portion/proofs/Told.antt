@@ -1,4 +1,5 @@
 -- What an answer tells of the ways to it: one that is given stays, and a foreign state comes back as it was.
+use Rattle.std.specs.Prelude.{Err}
 use Prim.Native.Nat.{ℕ, ◌+◌, ◌/◌, ◌%◌, ◌<◌, ◌≤◌}
 use mathlib.Core.Path.{◌≡◌, refl, sym, ap, ◌∙◌}
 use mathlib.Core.Bool.{Bool, true, false, false≢true}
@@ -8,13 +9,12 @@ use native.Mathlib.Omega.{arith}
 use native.Mathlib.Decide.{dec_lt, ℕ_discrete}
 use lib.Dec.{ltb}
 use lib.ListN.{length}
-use Rattle.amounts.specs.declared.Outcome.{Outcome}
-use Rattle.amounts.specs.declared.Outcome.TheVariants.{Pass, Fault}
+use Rattle.refusal.specs.Outcomes.{Outcome, Pass, Fails}
 use Rattle.text.proofs.Tests.{either_way}
 use Rattle.rules.specs.declared.State.{State}
 use Rattle.state.specs.Numbers.{state_of}
-use Rattle.judge.specs.declared.Verdict.{Verdict}
-use Rattle.judge.specs.declared.Verdict.TheVariants as Judged
+use Rattle.judge.specs.Refusal.{Verdict}
+use Rattle.judge.specs.Refusal as Judged
 use Rattle.judge.specs.Flow.{closing}
 use Rattle.judge.specs.Plain.{Whole}
 use Rattle.judge.proofs.FirstFault.{Sized, sized}
@@ -40,7 +40,7 @@ sort Foreign = 2
 
 ended-sort : (v : Verdict) → sort (ended_by v) ≡ 1
 ended-sort Judged.Accepted = refl
-ended-sort (Judged.Refused n r p) = refl
+ended-sort (Err why) = refl
 
 -- the ways to an answer
 data Way (s : List ℕ) (p : ℕ) (x : Progress) : Type 0 where
@@ -77,7 +77,7 @@ way-to s p x = go (possible x) refl
 -- what a portion above none leaves stands otherwise than foreign
 after-sort : (n : ℕ) (o : Outcome) (st : State) → sort (course_after n o st) ≤ 1
 after-sort n Pass st = either_way (λ (c : Course). sort c ≤ 1) (ltb st.seen n) Going (ended_by (closing st).verdict) (omega arith) (let e = ended-sort (closing st).verdict in omega arith)
-after-sort n (Fault e p) st = omega arith
+after-sort n (Err why) st = omega arith
 
 -- "An ended state gives its answer again", on any flow and with any portion
 pub given-again : (s t : List ℕ) (p q : ℕ) (x : Progress) (v : Verdict) → (portioned s p x).answer ≡ ended_by v → portioned t q (portioned s p x).next ≡ portioned s p x

@@ -1,7 +1,7 @@
 -- Serves inner functions. How far a portion reaches, and how the judgement stands then.
 use Rattle.std.specs.Prelude.{ℕ, ◌+◌, ◌-◌, ◌/◌, ◌<◌, cond, List, ltb, leb, length, get_or}
 use Rattle.state.specs.Numbers.{state_of}
-use Rattle.judge.specs.declared.Verdict.{Verdict}
+use Rattle.judge.specs.Refusal.{Verdict}
 use Rattle.judge.specs.Flow.{Ready}
 use Rattle.portion.specs.declared.Course.{Course}
 use Rattle.portion.specs.declared.Course.TheVariants.{Going}

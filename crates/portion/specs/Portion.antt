@@ -1,12 +1,11 @@
 -- Believed. A judgement by portions: what a call answers, and what it hands back for the next one.
-use Rattle.std.specs.Prelude.{ℕ, ◌+◌, ◌*◌, ◌/◌, ◌%◌, Bool, true, false, cond, List, [], ◌∷◌, eqb, ltb, leb, length, take, drop, get_or, replicate}
-use Rattle.amounts.specs.declared.Outcome.{Outcome}
-use Rattle.amounts.specs.declared.Outcome.TheVariants.{Pass, Fault}
+use Rattle.std.specs.Prelude.{ℕ, ◌+◌, ◌*◌, ◌/◌, ◌%◌, Bool, true, false, cond, List, [], ◌∷◌, eqb, ltb, leb, length, take, drop, get_or, replicate, Err}
+use Rattle.refusal.specs.Outcomes.{Outcome, Pass, Fails}
 use Rattle.rules.specs.declared.State.{State}
 use Rattle.rules.specs.State.{start_state}
 use Rattle.state.specs.Numbers.{state_numbers, state_of}
-use Rattle.judge.specs.declared.Verdict.{Verdict}
-use Rattle.judge.specs.declared.Verdict.TheVariants as Judged
+use Rattle.judge.specs.Refusal.{Verdict}
+use Rattle.judge.specs.Refusal as Judged
 use Rattle.judge.specs.declared.Summary.{Summary}
 use Rattle.judge.specs.Flow.{no_summary, summary_of, closing, rest_of, head_name_of}
 use Rattle.judge.specs.Run.{Run, ran}
@@ -22,7 +21,7 @@ start_progress = record { course = Going; kept = state_numbers start_state; name
 -- how a judgement stands that has ended: docs/PORTIONS.md, "it has ended with acceptance", "with a refusal"
 abbrev pub ended_by : Verdict → Course
 ended_by Judged.Accepted = Accepted
-ended_by (Judged.Refused n r p) = Refused n r p
+ended_by (Err why) = Refused why.number why.«record» why.position
 
 -- "how many records have been examined so far: the number of the refusing record, all records for acceptance or refusal 5, and none for 1 or 2"
 abbrev pub examined_by : Course → ℕ → ℕ
@@ -90,7 +89,7 @@ held_name s x = cond (eqb (state_of x.kept).seen 0) (head_name_of s) x.name
 -- how a judgement of n records stands after a run: 01's answer is "given by the call that examines the last record needed"
 abbrev pub course_after : ℕ → Outcome → State → Course
 course_after n Pass st = cond (ltb st.seen n) Going (ended_by (closing st).verdict)
-course_after n (Fault e p) st = Refused e (st.seen + 1) p
+course_after n (Err why) st = Refused why.number (st.seen + 1) why.position
 
 -- the records that a call may examine: at most p of those that are left
 abbrev pub allowed : List ℕ → ℕ → Progress → List (List ℕ)

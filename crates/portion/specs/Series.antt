@@ -1,7 +1,6 @@
 -- For theorems. Series of calls, what a judgement needs, and the records that a run steps over.
-use Rattle.std.specs.Prelude.{ℕ, zero, suc, ◌+◌, ◌-◌, ◌*◌, ◌/◌, ◌≤◌, ◌≡◌, false, List, [], ◌∷◌, ◌⊎◌, length, take, drop}
-use Rattle.amounts.specs.declared.Outcome.{Outcome}
-use Rattle.amounts.specs.declared.Outcome.TheVariants.{Pass, Fault}
+use Rattle.std.specs.Prelude.{ℕ, zero, suc, ◌+◌, ◌-◌, ◌*◌, ◌/◌, ◌≤◌, ◌≡◌, false, List, [], ◌∷◌, ◌⊎◌, length, take, drop, Err}
+use Rattle.refusal.specs.Outcomes.{Outcome, Pass, Fails}
 use Rattle.rules.specs.declared.State.{State}
 use Rattle.rules.specs.Checks.{fault}
 use Rattle.rules.specs.Step.{next}
@@ -30,7 +29,7 @@ needed s = examined_by (ended_by (judged s).verdict) (length s / 120)
 -- "the definition's record steps": the records that a run comes to
 abbrev pub one_more : Outcome → ℕ → ℕ
 one_more Pass n = suc n
-one_more (Fault e p) n = 1
+one_more (Err why) n = 1
 
 unfoldable pub steps : List ℕ → State → List (List ℕ) → ℕ
 steps name st [] = zero

@@ -10,7 +10,7 @@ use native.Mathlib.Nat.{lt_of_lt_of_le, pow-suc, pow-le-pow_right}
 use borrow.Author.Tests.{lt-ltb, le-ltb, ltb-true, ltb-false}
 use lib.Dec.{ltb, lit≤, lit<}
 use lib.ListN.{length}
-use Rattle.text.specs.declared.Digits.TheVariants.{Number}
+use Rattle.text.specs.Answers.{Number}
 use Rattle.text.specs.Numbers.{number_of, digits_of}
 use Rattle.text.proofs.Numerals.{number_digits, length_digits}
 use Rattle.printing.specs.Decimal.{width_within, width_of, decimal}

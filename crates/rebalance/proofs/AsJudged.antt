@@ -1,19 +1,17 @@
 -- What all checks say of a rebalanced record: what those that rebalancing leaves alone say of it as it was, and behind them what its stored fields do.
+use Rattle.std.specs.Prelude.{Err}
 use Prim.Native.Nat.{ℕ}
 use mathlib.Core.Path.{◌≡◌, refl, ap, ◌∙◌}
 use mathlib.Core.List.{List}
 use lib.ListN.{length}
-use Rattle.text.specs.declared.Characters.TheVariants.{Allowed}
-use Rattle.text.specs.declared.Digits.{Digits}
-use Rattle.text.specs.declared.Digits.TheVariants.{Number, NonDigit, TooLong}
+use Rattle.text.specs.Answers.{Allowed, Digits, Number, NonDigit, TooLong}
 use Rattle.text.specs.Characters.{first_bad}
 use Rattle.text.specs.Numbers.{number_of}
 use Rattle.layout.specs.declared.Field.{Field}
 use Rattle.layout.specs.declared.Kind.{Kind}
 use Rattle.layout.specs.Kinds.{type_in, kind_in}
 use Rattle.layout.specs.Fields.{delega_number, fields_of, bytes_of, value_of}
-use Rattle.amounts.specs.declared.Outcome.{Outcome}
-use Rattle.amounts.specs.declared.Outcome.TheVariants.{Pass, Fault}
+use Rattle.refusal.specs.Outcomes.{Outcome, Pass, Fails}
 use Rattle.amounts.specs.Outcomes.{first}
 use Rattle.order.specs.Order.{standing}
 use Rattle.rules.specs.declared.State.{State}
@@ -40,9 +38,9 @@ kept-digits {st} tail r h = (fields-same {st = st} tail r).1 h
 
 -- Checks behind which another comes.
 four-first : (a b c d e : Outcome) → first a (first b (first c (first d e))) ≡ first (first a (first b (first c d))) e
-four-first (Fault n p) b c d e = refl
-four-first Pass (Fault n p) c d e = refl
-four-first Pass Pass (Fault n p) d e = refl
+four-first (Err why) b c d e = refl
+four-first Pass (Err why) c d e = refl
+four-first Pass Pass (Err why) d e = refl
 four-first Pass Pass Pass d e = refl
 
 -- A record of 120 characters.

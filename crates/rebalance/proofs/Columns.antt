@@ -4,9 +4,7 @@ use mathlib.Core.Path.{◌≡◌, refl, sym, ap, ◌∙◌}
 use mathlib.Core.Bool.{Bool, true, false, cond}
 use mathlib.Core.List.{List, [], ◌∷◌}
 use lib.Dec.{T, ltb, lit≤}
-use Rattle.text.specs.declared.Characters.TheVariants.{Allowed}
-use Rattle.text.specs.declared.Digits.{Digits}
-use Rattle.text.specs.declared.Digits.TheVariants.{Number, NonDigit, TooLong}
+use Rattle.text.specs.Answers.{Allowed, Digits, Number, NonDigit, TooLong}
 use Rattle.text.specs.Characters.{first_bad}
 use Rattle.text.specs.Numbers.{number_of}
 use Rattle.text.proofs.Allowed.{allowed-byte, allowed-digits}
@@ -21,8 +19,7 @@ use Rattle.layout.proofs.InTable.{section_of, section-within}
 use Rattle.layout.proofs.Table.{at_each}
 use Rattle.amounts.specs.declared.Sums.{Sums}
 use Rattle.rules.specs.declared.State.{State}
-use Rattle.amounts.specs.declared.Outcome.{Outcome}
-use Rattle.amounts.specs.declared.Outcome.TheVariants.{Pass}
+use Rattle.refusal.specs.Outcomes.{Outcome, Pass}
 use Rattle.amounts.specs.Outcomes.{first}
 use Rattle.amounts.specs.Amounts.{sign_of, apart}
 use Rattle.rules.specs.Stored.{Stored, Value, Mark, section_sums, stored_of}

@@ -4,7 +4,7 @@ use mathlib.Core.Path.{◌≡◌, refl, sym, ap, ap₂, ◌∙◌}
 use mathlib.Core.Bool.{Bool, true, false, cond}
 use mathlib.Core.List.{List, [], ◌∷◌}
 use lib.ListN.{length, take, drop, get_or}
-use Rattle.text.specs.declared.Characters.TheVariants.{Allowed}
+use Rattle.text.specs.Answers.{Allowed}
 use Rattle.text.specs.Characters.{first_bad}
 use Rattle.text.specs.Numbers.{number_of, amount_of}
 use Rattle.layout.specs.declared.Kind.{Kind}
@@ -13,8 +13,7 @@ use Rattle.layout.specs.Sections.{section_at}
 use Rattle.layout.specs.Kinds.{type_of, kind_of, type_in, kind_in}
 use Rattle.layout.specs.Fields.{delega_number, final_balance, tail_deleghe, tail_sum, tail_records, fields_of, value_of}
 use Rattle.rules.specs.declared.State.{State}
-use Rattle.amounts.specs.declared.Outcome.{Outcome}
-use Rattle.amounts.specs.declared.Outcome.TheVariants.{Pass, Fault}
+use Rattle.refusal.specs.Outcomes.{Outcome, Pass, Fails}
 use Rattle.order.specs.Order.{stands, full, type_stands, standing}
 use Rattle.rules.specs.Stored.{Stored, section_sums, stored_of, wrong}
 use Rattle.rules.specs.Checks.{char_fault, or_bad, bad_fields, number_fault, tail_name, own_fault, fault}
@@ -101,7 +100,7 @@ pub kept-stands : (name : List ℕ) (st : State) (r : List ℕ) → kept_fault n
 unfolding kept_fault standing
 kept-stands name st r e = go (stands st.stage (kind_in r)) (type_stands st.stage (type_in r)) (kept-each name st r e).order
   where
-    go : (t u : Bool) → cond t (cond (full st.stage (kind_in r)) (Fault 6 11) Pass) (cond u (Fault 4 11) (Fault 4 2)) ≡ Pass → t ≡ true
+    go : (t u : Bool) → cond t (cond (full st.stage (kind_in r)) (Fails 6 11) Pass) (cond u (Fails 4 11) (Fails 4 2)) ≡ Pass → t ≡ true
     go true u e = refl
     go false true e = cc
     go false false e = cc

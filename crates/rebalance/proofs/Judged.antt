@@ -11,7 +11,7 @@ use Rattle.order.specs.Stages.{at_start}
 use Rattle.rules.specs.State.{start_state}
 use Rattle.rules.specs.Stored.{stored_of}
 use Rattle.rules.specs.Step.{next}
-use Rattle.judge.specs.declared.Verdict.TheVariants.{Accepted}
+use Rattle.judge.specs.Refusal.{Accepted}
 use Rattle.judge.specs.Flow.{accepted_with, records_of, head_name_of, judged}
 use Rattle.judge.specs.Plain.{Whole, state_after}
 use Rattle.judge.proofs.Accepted.{head-stands, judged-whole, accepted-means-no-fault, sound-phase}

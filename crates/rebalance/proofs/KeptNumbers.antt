@@ -3,10 +3,7 @@ use Prim.Native.Nat.{ℕ}
 use mathlib.Core.Path.{refl}
 use mathlib.Core.List.{List, [], ◌∷◌}
 use lib.Dec.{eqb, ltb}
-use Rattle.text.specs.declared.Characters.{Characters}
-use Rattle.text.specs.declared.Characters.TheVariants.{Allowed, BadAt}
-use Rattle.text.specs.declared.Digits.{Digits}
-use Rattle.text.specs.declared.Digits.TheVariants.{Number, NonDigit, TooLong}
+use Rattle.text.specs.Answers.{Characters, Allowed, BadAt, Digits, Number, NonDigit, TooLong}
 use Rattle.text.specs.Characters.{first_bad}
 use Rattle.text.specs.Numbers.{number_of}
 use Rattle.text.specs.Among.{among}
@@ -16,7 +13,7 @@ use Rattle.layout.specs.declared.Kind.{Kind}
 use Rattle.layout.specs.declared.Kind.TheVariants.{Head, Taxpayer, Domicile, Line, Balance, Payment, Receipt, Addressee, Tail, Unknown}
 use Rattle.layout.specs.Kinds.{type_in, kind_in}
 use Rattle.layout.specs.Fields.{creation_date, tax_code, support_name, bytes_of, value_of, delega_number}
-use Rattle.amounts.specs.declared.Outcome.{Outcome}
+use Rattle.refusal.specs.Outcomes.{Outcome}
 use Rattle.amounts.specs.Outcomes.{first}
 use Rattle.amounts.specs.Dates.{date_right}
 use Rattle.amounts.specs.Names.{name_right, same_bytes}

@@ -15,8 +15,7 @@ use Rattle.layout.specs.declared.Kind.{Kind}
 use Rattle.layout.specs.declared.Kind.TheVariants.{Head, Taxpayer, Domicile, Line, Balance, Payment, Receipt, Addressee, Tail, Unknown}
 use Rattle.layout.specs.Kinds.{numbered}
 use Rattle.layout.specs.Fields.{delega_number, bytes_of, value_of}
-use Rattle.amounts.specs.declared.Outcome.{Outcome}
-use Rattle.amounts.specs.declared.Outcome.TheVariants.{Pass}
+use Rattle.refusal.specs.Outcomes.{Outcome, Pass}
 use Rattle.rules.specs.Checks.{or_bad, bad_fields, carried, number_fault}
 use Rattle.rules.specs.Step.{next_deleghe}
 use Rattle.judge.proofs.Accepted.{carried-number}

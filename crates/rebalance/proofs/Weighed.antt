@@ -8,7 +8,7 @@ use Rattle.layout.specs.declared.Kind.{Kind}
 use Rattle.layout.specs.declared.Kind.TheVariants.{Head, Taxpayer, Domicile, Line, Balance, Payment, Receipt, Addressee, Tail, Unknown}
 use Rattle.layout.specs.Kinds.{kind_in}
 use Rattle.rules.specs.declared.State.{State}
-use Rattle.amounts.specs.declared.Outcome.TheVariants.{Pass, Fault}
+use Rattle.refusal.specs.Outcomes.{Pass, Fails}
 use Rattle.rules.specs.Stored.{stored_of}
 use Rattle.rules.specs.Checks.{negative_fault, own_fault}
 use Rattle.rules.specs.Step.{next}
@@ -27,7 +27,7 @@ own-positive name st (Line s) r e = refl
 own-positive name st (Balance s) r e = refl
 own-positive name st Payment r e = go (ltb st.money.delega.all.debit st.money.delega.all.credit) e
   where
-    go : (t : Bool) → cond t (Fault 14 2) Pass ≡ Pass → t ≡ false
+    go : (t : Bool) → cond t (Fails 14 2) Pass ≡ Pass → t ≡ false
     go true e = cc
     go false e = refl
 own-positive name st Receipt r e = refl

@@ -8,9 +8,7 @@ use borrow.Author.Tests.{ltb-true, lt-ltb, leb-true, eqb-true, eq-eqb}
 use lib.Dec.{leb, lit<}
 use lib.ListN.{length, take, drop, get_or, length-drop}
 use lib.Seq.{get_or-take, get_or-drop, length-take-le, drop-cons}
-use Rattle.text.specs.declared.Characters.TheVariants.{Allowed}
-use Rattle.text.specs.declared.Digits.{Digits}
-use Rattle.text.specs.declared.Digits.TheVariants.{Number, NonDigit, TooLong}
+use Rattle.text.specs.Answers.{Allowed, Digits, Number, NonDigit, TooLong}
 use Rattle.text.specs.Characters.{first_bad}
 use Rattle.text.specs.Numbers.{number_of, amount_of, digits_of}
 use Rattle.text.specs.Placing.{put_at}
@@ -19,8 +17,7 @@ use Rattle.text.proofs.NonDigits.{Tells, non-digit, digits-told, written-digits}
 use Rattle.text.proofs.Puts.{length-put, put-here, put-after, put-before, put_same, put-allowed}
 use Rattle.layout.specs.declared.Field.{Field}
 use Rattle.layout.specs.Fields.{bytes_of, value_of}
-use Rattle.amounts.specs.declared.Outcome.{Outcome}
-use Rattle.amounts.specs.declared.Outcome.TheVariants.{Pass}
+use Rattle.refusal.specs.Outcomes.{Outcome, Pass}
 use Rattle.rules.specs.Stored.{Stored, Value, Mark, right, fault_of, wrong}
 use Rattle.rules.specs.Checks.{or_bad, bad_fields}
 use Rattle.rebalance.specs.Rebalance.{start_of, width_of, text_of, put_all, fits_one, fits_all, clear}

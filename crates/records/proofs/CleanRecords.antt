@@ -7,7 +7,7 @@ use native.Mathlib.Omega.{arith}
 use native.Mathlib.Decide.{dec_lt}
 use lib.ListN.{take, drop}
 use lib.Seq.{drop-drop}
-use Rattle.text.specs.declared.Characters.TheVariants.{Allowed}
+use Rattle.text.specs.Answers.{Allowed}
 use Rattle.text.specs.Characters.{first_bad, is_allowed, all_allowed}
 use Rattle.text.proofs.Allowed.{allowed-part}
 use Rattle.records.specs.Reading.{Clean}

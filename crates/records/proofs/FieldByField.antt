@@ -2,26 +2,22 @@
 use Prim.Native.Nat.{ℕ, suc, ◌+◌, ◌-◌, ◌<◌, ◌≤◌}
 use mathlib.Core.Path.{◌≡◌, refl, sym, ap, ◌∙◌}
 use mathlib.Core.List.{List, [], ◌∷◌, ◌++◌, map, append_assoc, map-append}
-use mathlib.Core.Logic.{⊎_elim}
+use mathlib.Core.Bool.{false≢true}
 use native.Mathlib.Omega.{arith}
 use native.Mathlib.Numerals.{add-one}
 use native.Mathlib.Nat.{min-le_left}
-use types.Run.{OneOf}
-use denote.Enum.Declared.{tag_of}
 use lib.ListN.{length, take, drop, get_or, set, replicate, length-map, length-take, drop_of_length-le}
 use lib.Seq.{drop-cons, set_at, take-suc, take_all, length-take-le}
-use Rattle.text.specs.declared.Digits.{Digits}
-use Rattle.text.specs.declared.Digits.TheVariants.{Number, NonDigit, TooLong}
+use Rattle.std.specs.Result.{IsErr}
+use Rattle.text.specs.Answers.{Digits, Number, NonDigit, TooLong}
 use Rattle.text.specs.Numbers.{number_of}
-use Rattle.text.specs.contracts.Digits.{the_type}
 use Rattle.text.proofs.NonDigits.{Tells, number, non-digit, digits-told}
 use Rattle.layout.specs.declared.Field.{Field}
 use Rattle.layout.specs.declared.Fields.{Fields}
 use Rattle.layout.specs.declared.Kind.{Kind}
 use Rattle.layout.specs.Fields.{Within, nowhere, listed, fields_of, bytes_of, value_of}
 use Rattle.layout.proofs.Within.{fields_within, fields-four, listed_at}
-use Rattle.amounts.specs.declared.Outcome.{Outcome}
-use Rattle.amounts.specs.declared.Outcome.TheVariants.{Pass, Fault}
+use Rattle.refusal.specs.Outcomes.{Outcome, Pass, Fails}
 use Rattle.rules.specs.Checks.{or_bad, bad_fields}
 use Rattle.rules.specs.Values.{values_in}
 use Rattle.records.specs.Reading.{non_digit_at}
@@ -40,10 +36,10 @@ module _ (k : Kind) (fs : Fields) (e : fs ≡ listed (fields_of k)) (f : ℕ) (h
   field-within = rw field_is (fields_within k f inside)
 
 -- an answer that is no number is a fault, at the position of the first non-digit
-no_number : (d : Digits) → OneOf (1 ∷ 2 ∷ []) (tag_of the_type d) → (f : Field) (o : Outcome) → or_bad d f o ≡ Fault 7 (non_digit_at f d)
-no_number (Number v) t f o = absurd (⊎_elim (λ e. omega arith) (λ e. omega arith) t)
+no_number : (d : Digits) → IsErr d → (f : Field) (o : Outcome) → or_bad d f o ≡ Fails 7 (non_digit_at f d)
+no_number (Number v) t f o = absurd (false≢true t)
 no_number (NonDigit i) t f o = refl
-no_number TooLong t f o = ap (Fault 7) (let e : f.start + 1 ≡ f.start + 0 + 1 = omega arith in e)
+no_number TooLong t f o = ap (Fails 7) (let e : f.start + 1 ≡ f.start + 0 + 1 = omega arith in e)
 
 -- the position told is small
 pub non-digit-near : (f : Field) (r : List ℕ) → Within f → (d : Digits) → d ≡ number_of (bytes_of r f) → non_digit_at f d < 1000
@@ -64,7 +60,7 @@ module _ (fl : List Field) (r : List ℕ) (j : ℕ) (h : j < length fl) where
   bad-on v e = rw (drop-cons fl j nowhere h, e, add-one)
 
   -- an answer that is no number is the fault 7, at the position of the first non-digit
-  pub bad-here : (d : Digits) → d ≡ number_of (bytes_of r (get_or fl j nowhere)) → OneOf (1 ∷ 2 ∷ []) (tag_of the_type d) → bad_fields (drop j fl) r ≡ Fault 7 (non_digit_at (get_or fl j nowhere) d)
+  pub bad-here : (d : Digits) → d ≡ number_of (bytes_of r (get_or fl j nowhere)) → IsErr d → bad_fields (drop j fl) r ≡ Fails 7 (non_digit_at (get_or fl j nowhere) d)
   unfolding bad_fields
   bad-here d e t = rw (drop-cons fl j nowhere h, ← e) (no_number d t (get_or fl j nowhere) (bad_fields (drop (suc j) fl) r))
 

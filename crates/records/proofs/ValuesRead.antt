@@ -1,29 +1,29 @@
 -- Laws of the values of a record's fields: none is bad, or the position of the first non-digit.
+use Rattle.std.specs.Prelude.{Err}
 use Prim.Native.Nat.{ℕ, ◌+◌, ◌<◌}
-use mathlib.Core.Path.{◌≡◌, refl, ap}
+use mathlib.Core.Path.{◌≡◌, refl, sym, ap}
 use mathlib.Core.List.{List, [], ◌∷◌}
 use native.Mathlib.Omega.{arith}
-use Rattle.text.specs.declared.Digits.{Digits}
-use Rattle.text.specs.declared.Digits.TheVariants.{Number, NonDigit, TooLong}
+use Rattle.text.specs.Answers.{Digits, Number, NonDigit, TooLong}
 use Rattle.text.specs.Numbers.{number_of}
 use Rattle.layout.specs.declared.Field.{Field}
 use Rattle.layout.specs.Fields.{bytes_of}
-use Rattle.amounts.specs.declared.Outcome.{Outcome}
-use Rattle.amounts.specs.declared.Outcome.TheVariants.{Pass, Fault}
+use Rattle.refusal.proofs.Parts.{fails-parts}
+use Rattle.refusal.specs.Outcomes.{Outcome, Pass, Fails}
 use Rattle.rules.specs.Checks.{or_bad, bad_fields}
 use Rattle.rules.specs.Values.{values_in}
 use Rattle.records.specs.Reading.{values_read}
 
 -- a field that is no number is refused with 7, at a position above 0
-bad-seven : (fl : List Field) (r : List ℕ) {e p : ℕ} → bad_fields fl r ≡ Fault e p → (e ≡ 7) × (0 < p)
+bad-seven : (fl : List Field) (r : List ℕ) {e p : ℕ} → bad_fields fl r ≡ Fails e p → (e ≡ 7) × (0 < p)
 unfolding bad_fields
 bad-seven [] r g = let z : ◌≡◌ {A = ℕ} 0 1 = cc in absurd (omega arith)
 bad-seven (f ∷ fl) r {e = e} {p = p} g = go (number_of (bytes_of r f)) g (λ h. bad-seven fl r h)
   where
-    go : (d : Digits) → or_bad d f (bad_fields fl r) ≡ Fault e p → (bad_fields fl r ≡ Fault e p → (e ≡ 7) × (0 < p)) → (e ≡ 7) × (0 < p)
+    go : (d : Digits) → or_bad d f (bad_fields fl r) ≡ Fails e p → (bad_fields fl r ≡ Fails e p → (e ≡ 7) × (0 < p)) → (e ≡ 7) × (0 < p)
     go (Number v) h ih = ih h
-    go (NonDigit i) h ih = let x : 7 ≡ e = cc in let y : f.start + i + 1 ≡ p = cc in (omega arith, omega arith)
-    go TooLong h ih = let x : 7 ≡ e = cc in let y : f.start + 1 ≡ p = cc in (omega arith, omega arith)
+    go (NonDigit i) h ih = let same = fails-parts h in (sym same.0, omega (arith, same.1))
+    go TooLong h ih = let same = fails-parts h in (sym same.0, omega (arith, same.1))
 
 -- where none is bad, they are the values
 pub values-good : (fl : List Field) (r : List ℕ) → (values_read fl r).bad ≡ 0 → (bad_fields fl r ≡ Pass) × ((values_read fl r).values ≡ values_in fl r)
@@ -32,13 +32,13 @@ values-good fl r z = go (bad_fields fl r) refl
   where
     go : (o : Outcome) → bad_fields fl r ≡ o → (bad_fields fl r ≡ Pass) × ((values_read fl r).values ≡ values_in fl r)
     go Pass g = (g, rw g)
-    go (Fault e p) g = let q : p ≡ 0 = rw g at z in absurd (omega (arith, (bad-seven fl r g).1))
+    go (Err why) g = let q : why.position ≡ 0 = rw g at z in absurd (omega (arith, (bad-seven fl r g).1))
 
 -- else the position is that of fault 7
-pub values-bad : (fl : List Field) (r : List ℕ) → ((values_read fl r).bad ≡ 0 → ⊥) → bad_fields fl r ≡ Fault 7 (values_read fl r).bad
+pub values-bad : (fl : List Field) (r : List ℕ) → ((values_read fl r).bad ≡ 0 → ⊥) → bad_fields fl r ≡ Fails 7 (values_read fl r).bad
 unfolding values_read
 values-bad fl r z = go (bad_fields fl r) refl
   where
-    go : (o : Outcome) → bad_fields fl r ≡ o → bad_fields fl r ≡ Fault 7 (values_read fl r).bad
+    go : (o : Outcome) → bad_fields fl r ≡ o → bad_fields fl r ≡ Fails 7 (values_read fl r).bad
     go Pass g = absurd (z (rw g))
-    go (Fault e p) g = rw g (ap (λ (x : ℕ). Fault x p) (bad-seven fl r g).0)
+    go (Err why) g = rw g (ap (λ (n : ℕ). Fails n why.position) (bad-seven fl r g).0)

@@ -1,11 +1,9 @@
 -- Serves inner functions. How characters and fields are looked at: records up to the first that is not clean, and the values of a record's fields.
-use Rattle.std.specs.Prelude.{ℕ, ◌+◌, ◌-◌, ◌*◌, ◌/◌, ◌<◌, ◌≤◌, ◌≡◌, true, false, List, length, take, drop, replicate}
-use Rattle.text.specs.declared.Digits.{Digits}
-use Rattle.text.specs.declared.Digits.TheVariants.{Number, NonDigit, TooLong}
+use Rattle.std.specs.Prelude.{ℕ, ◌+◌, ◌-◌, ◌*◌, ◌/◌, ◌<◌, ◌≤◌, ◌≡◌, true, false, List, length, take, drop, replicate, Err}
+use Rattle.text.specs.Answers.{Digits, Number, NonDigit, TooLong}
 use Rattle.text.specs.Characters.{all_allowed}
 use Rattle.layout.specs.declared.Field.{Field}
-use Rattle.amounts.specs.declared.Outcome.{Outcome}
-use Rattle.amounts.specs.declared.Outcome.TheVariants.{Pass, Fault}
+use Rattle.refusal.specs.Outcomes.{Outcome, Pass, Fails}
 use Rattle.rules.specs.Checks.{bad_fields}
 use Rattle.rules.specs.Values.{values_in}
 use Rattle.records.specs.declared.Values.{Values}
@@ -30,7 +28,7 @@ non_digit_at f d = f.start + offset_of d + 1
 -- values where check 7 passes, else the position that it tells
 abbrev values_by : Outcome → List ℕ → Values
 values_by Pass vs = record { bad = 0; values = vs }
-values_by (Fault e p) vs = record { bad = p; values = replicate 4 0 }
+values_by (Err why) vs = record { bad = why.position; values = replicate 4 0 }
 
 -- the values of the fields of a list, or the position of the first character in them that is no digit
 unfoldable pub values_read : List Field → List ℕ → Values

@@ -12,10 +12,10 @@ ghost use Rattle.layout.specs.Fields.{fields_of, bytes_of, Within};
 ghost use Rattle.rules.specs.Checks.{char_fault};
 ghost use Rattle.records.specs.Reading.{Clean, offset_of, non_digit_at, values_read};
 
-use amounts::Outcome;
 use layout::{Field, Flow, Kind, Part, RecordType};
 pub use lines::line_sums;
-use text::{Characters, Digits};
+use refusal::Fault;
+use text::DigitsError;
 
 // The record that starts at an index.
 pub fn record_at(flow: &[u8], at: usize) -> &[u8]
@@ -26,12 +26,15 @@ pub fn record_at(flow: &[u8], at: usize) -> &[u8]
 }
 
 // Check 3.
-pub fn char_fault(rec: &[u8]) -> Outcome
+pub fn char_fault(rec: &[u8]) -> Result<(), Fault>
     ensures { result ≡ char_fault (first_bad rec.now) }
 {
     match text::first_bad(rec) {
-        Characters::Allowed => Outcome::Pass,
-        Characters::BadAt(i) => Outcome::Fault(3, i + 1),
+        None => Ok(()),
+        Some(i) => Err(Fault {
+            number: 3,
+            position: i + 1,
+        }),
     }
 }
 
@@ -53,7 +56,7 @@ pub fn kind_in(rec: &[u8]) -> Kind
 }
 
 // What the digits of a field say.
-pub fn read_field(rec: &[u8], field: Field) -> Digits
+pub fn read_field(rec: &[u8], field: Field) -> Result<u64, DigitsError>
     requires { (length rec.now ≡ 120) × Within field }
     ensures { result ≡ number_of (bytes_of rec.now field) }
 {
@@ -63,18 +66,18 @@ pub fn read_field(rec: &[u8], field: Field) -> Digits
 }
 
 // The offset of the first character of a field that is no digit, by what the field's digits say; 0 where they tell none.
-fn offset_of(said: Digits) -> usize
+fn offset_of(said: Result<u64, DigitsError>) -> usize
     ensures { result ≡ offset_of said }
 {
     match said {
-        Digits::Number(_) => 0,
-        Digits::NonDigit(i) => i,
-        Digits::TooLong => 0,
+        Ok(_) => 0,
+        Err(DigitsError::NonDigit(i)) => i,
+        Err(DigitsError::TooLong) => 0,
     }
 }
 
 // The position of that character in the record, for a field that says no number.
-pub fn non_digit_at(field: Field, said: Digits) -> usize
+pub fn non_digit_at(field: Field, said: Result<u64, DigitsError>) -> usize
     requires { non_digit_at field said < 1000 }
     ensures { result ≡ non_digit_at field said }
 {
@@ -125,7 +128,7 @@ pub fn values_in(rec: &[u8], kind: Kind) -> Values
     while f < fields.count {
         let field = list[f];
         let said = read_field(rec, field);
-        let Digits::Number(v) = said else {
+        let Ok(v) = said else {
             return Values {
                 bad: non_digit_at(field, said),
                 values: [0u64; 4],

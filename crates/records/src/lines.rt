@@ -5,7 +5,6 @@ ghost use Rattle.rules.specs.Step.{line_sums};
 
 use amounts::Sums;
 use layout::Kind;
-use words::Fifteen;
 
 // The amount that starts at an index: a field that is no number counts 0.
 fn amount_in(rec: &[u8], at: usize) -> u64
@@ -13,8 +12,8 @@ fn amount_in(rec: &[u8], at: usize) -> u64
     ensures { result ≡ value_of rec.now (amount_at at) }
 {
     match words::any_amount_at(rec, at) {
-        Fifteen::Amount(v) => v,
-        Fifteen::NonDigit => 0,
+        Some(v) => v,
+        None => 0,
     }
 }
 

@@ -11,9 +11,7 @@ use Rattle.text.specs.Placing.{put_at, number_bytes}
 use Rattle.text.proofs.Fits.{number_fits_lem, number-written}
 use Rattle.text.proofs.Numerals.{length_digits}
 use Rattle.text.proofs.Puts.{length-put, put-here, put-after, put_is}
-use Rattle.judge.specs.declared.Verdict.{Verdict}
-use Rattle.judge.specs.declared.Verdict.TheVariants.{Accepted, Refused}
-use Rattle.judge.specs.Refusal.{judged_first}
+use Rattle.judge.specs.Refusal.{Verdict, Accepted, Refused, judged_first}
 use Rattle.report.specs.Printed.{width_of, decimal, refused_text, printed_bytes, printed_size, Printed}
 use Rattle.report.specs.Appended.{Appended}
 use Rattle.report.proofs.Widths.{width-twenty, width-enough}

@@ -9,7 +9,7 @@ use native.Mathlib.Nat.{lt_of_lt_of_le, pow-suc}
 use borrow.Author.Tests.{lt-ltb, le-ltb, ltb-true, ltb-false}
 use lib.Dec.{ltb, lit≤}
 use lib.ListN.{length}
-use Rattle.text.specs.declared.Digits.TheVariants.{Number}
+use Rattle.text.specs.Answers.{Number}
 use Rattle.text.specs.Numbers.{number_of}
 use Rattle.text.proofs.Numerals.{number_digits, length_digits}
 use Rattle.report.specs.Printed.{width_within, width_of, decimal}

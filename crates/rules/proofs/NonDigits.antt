@@ -9,23 +9,22 @@ use borrow.Author.Tests.{ltb-true, ltb-false}
 use lib.Dec.{ltb}
 use lib.ListN.{length, drop, get_or}
 use lib.Seq.{get_or-take, get_or-drop}
-use Rattle.text.specs.declared.Digits.{Digits}
-use Rattle.text.specs.declared.Digits.TheVariants.{Number, NonDigit, TooLong}
+use Rattle.text.specs.Answers.{Digits, Number, NonDigit, TooLong}
 use Rattle.text.specs.Numbers.{digit, number_of}
 use Rattle.text.proofs.Bytes.{part_length}
 use Rattle.text.proofs.NonDigits.{DigitsTo, Tells, number, non-digit, digits-told}
 use Rattle.layout.specs.declared.Field.{Field}
 use Rattle.layout.specs.Fields.{bytes_of, in_columns}
 use Rattle.layout.proofs.InOrder.{InOrder, in-first, first-in, others-in, none_before}
-use Rattle.amounts.specs.declared.Outcome.{Outcome}
-use Rattle.amounts.specs.declared.Outcome.TheVariants.{Pass, Fault}
+use Rattle.refusal.proofs.Parts.{fails-parts}
+use Rattle.refusal.specs.Outcomes.{Outcome, Pass, Fails}
 use Rattle.rules.specs.Checks.{or_bad, bad_fields}
 use Rattle.rules.specs.NonDigits.{FirstNonDigit, DigitsOnly}
 
 -- what check 7 says of fields
 data Said (fl : List Field) (r : List ℕ) : Outcome → Type 0 where
   passes : DigitsOnly fl r → Said fl r Pass
-  fails : {i : ℕ} → FirstNonDigit fl r i → Said fl r (Fault 7 (i + 1))
+  fails : {i : ℕ} → FirstNonDigit fl r i → Said fl r (Fails 7 (i + 1))
 
 module _ (r : List ℕ) (l : length r ≡ 120) where
   -- a field within the record, and others behind it
@@ -93,21 +92,21 @@ module _ (r : List ℕ) (l : length r ≡ 120) where
         back h (fails {i} g) = absurd (false≢true (sym g.wrong ∙ h i g.inside))
 
     -- its fault is 7, behind the index of the first non-digit
-    pub fault-told : {e p : ℕ} → bad_fields fl r ≡ Fault e p → (i : ℕ) × (e ≡ 7) × (p ≡ i + 1) × FirstNonDigit fl r i
+    pub fault-told : {e p : ℕ} → bad_fields fl r ≡ Fails e p → (i : ℕ) × (e ≡ 7) × (p ≡ i + 1) × FirstNonDigit fl r i
     fault-told {e} {p} = go (said n fl o)
       where
-        go : {x : Outcome} → Said fl r x → x ≡ Fault e p → (i : ℕ) × (e ≡ 7) × (p ≡ i + 1) × FirstNonDigit fl r i
+        go : {x : Outcome} → Said fl r x → x ≡ Fails e p → (i : ℕ) × (e ≡ 7) × (p ≡ i + 1) × FirstNonDigit fl r i
         go (passes h) q = let z : ◌≡◌ {A = ℕ} 0 1 = cc in absurd (omega arith)
-        go (fails {i} h) q = (i, cc, cc, h)
+        go (fails {i} h) q = let same = fails-parts q in (i, sym same.0, sym same.1, h)
 
     -- and tells the position behind an index exactly where that is the index of the first non-digit
-    pub fault-exactly : (i : ℕ) → (bad_fields fl r ≡ Fault 7 (i + 1)) ↔ FirstNonDigit fl r i
+    pub fault-exactly : (i : ℕ) → (bad_fields fl r ≡ Fails 7 (i + 1)) ↔ FirstNonDigit fl r i
     fault-exactly i = (λ e. go (said n fl o) e, λ h. back h (said n fl o))
       where
-        go : {x : Outcome} → Said fl r x → x ≡ Fault 7 (i + 1) → FirstNonDigit fl r i
+        go : {x : Outcome} → Said fl r x → x ≡ Fails 7 (i + 1) → FirstNonDigit fl r i
         go (passes h) e = let z : ◌≡◌ {A = ℕ} 0 1 = cc in absurd (omega arith)
-        go (fails {i = j} h) e = let k : j + 1 ≡ i + 1 = cc in let q : i ≡ j = omega arith in rw q h
+        go (fails {i = j} h) e = let k : j + 1 ≡ i + 1 = (fails-parts e).1 in let q : i ≡ j = omega arith in rw q h
 
-        back : FirstNonDigit fl r i → {x : Outcome} → Said fl r x → x ≡ Fault 7 (i + 1)
+        back : FirstNonDigit fl r i → {x : Outcome} → Said fl r x → x ≡ Fails 7 (i + 1)
         back h (passes g) = absurd (false≢true (sym h.wrong ∙ g i h.inside))
-        back h (fails {i = j} g) = let a = one-first fl h g in let b = one-first fl g h in ap (λ (k : ℕ). Fault 7 (k + 1)) (let q : j ≡ i = omega arith in q)
+        back h (fails {i = j} g) = let a = one-first fl h g in let b = one-first fl g h in ap (λ (k : ℕ). Fails 7 (k + 1)) (let q : j ≡ i = omega arith in q)

@@ -1,4 +1,5 @@
 -- The checks on the values that were read are the checks on the record.
+use Rattle.std.specs.Prelude.{Err}
 use Prim.Native.Nat.{ℕ, ◌+◌}
 use mathlib.Core.Path.{◌≡◌, refl, sym}
 use mathlib.Core.Bool.{Bool, true, false, cond}
@@ -12,8 +13,7 @@ use Rattle.layout.specs.Sections.{section_at}
 use Rattle.layout.specs.Fields.{fields_of, value_of, delega_number, amount_at}
 use Rattle.amounts.specs.declared.Sums.{Sums}
 use Rattle.rules.specs.declared.State.{State}
-use Rattle.amounts.specs.declared.Outcome.{Outcome}
-use Rattle.amounts.specs.declared.Outcome.TheVariants.{Pass, Fault}
+use Rattle.refusal.specs.Outcomes.{Outcome, Pass, Fails}
 use Rattle.amounts.specs.Outcomes.{first}
 use Rattle.rules.specs.Stored.{Value, stored_of, stored_balance, section_sums, wrong}
 use Rattle.rules.specs.Checks.{number_fault, code_fault, own_fault}
@@ -23,7 +23,7 @@ use Rattle.rules.specs.Step.{next_of, line_sums}
 -- nothing is stored
 first_alone : (o : Outcome) → first o Pass ≡ o
 first_alone Pass = refl
-first_alone (Fault n p) = refl
+first_alone (Err why) = refl
 
 -- a balance record, with totals and without
 module _ (s : ℕ) (x : Sums) (r : List ℕ) where
@@ -40,8 +40,8 @@ module _ (s : ℕ) (x : Sums) (r : List ℕ) where
   checked t vs =
       cond t
       (cond (eqb (get_or vs 1 0) x.debit)
-      (cond (eqb (get_or vs 2 0) x.credit) (balance_end s x (get_or r (section_at s).sign 0) (get_or vs 3 0)) (Fault 11 ((section_at s).total_credit + 1)))
-      (Fault 10 ((section_at s).total_debit + 1)))
+      (cond (eqb (get_or vs 2 0) x.credit) (balance_end s x (get_or r (section_at s).sign 0) (get_or vs 3 0)) (Fails 11 ((section_at s).total_credit + 1)))
+      (Fails 10 ((section_at s).total_debit + 1)))
       (balance_end s x (get_or r (section_at s).sign 0) (get_or vs 1 0))
 
   balance-read : (t : Bool) →

@@ -7,8 +7,7 @@ use Rattle.layout.specs.Sections.{section_at}
 use Rattle.layout.specs.Fields.{amount_at, final_balance, tail_deleghe, tail_sum, tail_records, value_of}
 use Rattle.amounts.specs.declared.Sums.{Sums}
 use Rattle.rules.specs.declared.State.{State}
-use Rattle.amounts.specs.declared.Outcome.{Outcome}
-use Rattle.amounts.specs.declared.Outcome.TheVariants.{Pass, Fault}
+use Rattle.refusal.specs.Outcomes.{Outcome, Pass, Fails}
 use Rattle.rules.specs.State.{no_sums}
 use Rattle.amounts.specs.Amounts.{sign_of, apart, final_of}
 
@@ -53,8 +52,8 @@ right (Mark n c b) r = eqb (get_or r c 0) b
 
 -- 10 to 13, 15, 18 to 20: "differs", at the "start of field"
 abbrev pub fault_of : Stored → Outcome
-fault_of (Value n f v) = Fault n (f.start + 1)
-fault_of (Mark n c b) = Fault n (c + 1)
+fault_of (Value n f v) = Fails n (f.start + 1)
+fault_of (Mark n c b) = Fails n (c + 1)
 
 -- the first stored field that is not right
 abbrev pub wrong : List Stored → List ℕ → Outcome

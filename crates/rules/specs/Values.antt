@@ -7,8 +7,7 @@ use Rattle.layout.specs.Sections.{section_at}
 use Rattle.layout.specs.Fields.{bytes_of, value_of, tax_code, support_name}
 use Rattle.amounts.specs.declared.Sums.{Sums}
 use Rattle.rules.specs.declared.State.{State}
-use Rattle.amounts.specs.declared.Outcome.{Outcome}
-use Rattle.amounts.specs.declared.Outcome.TheVariants.{Pass, Fault}
+use Rattle.refusal.specs.Outcomes.{Outcome, Pass, Fails}
 use Rattle.amounts.specs.Outcomes.{first}
 use Rattle.amounts.specs.Amounts.{sign_of, apart, final_of, line_fault}
 use Rattle.taxcode.specs.TaxCodes.{code_right}
@@ -23,21 +22,21 @@ values_in fl r = map (value_of r) fl ++ replicate (4 - length fl) 0
 unfoldable pub balance_end : ℕ → Sums → ℕ → ℕ → Outcome
 balance_end s t sign bal =
     cond (eqb sign (sign_of t.debit t.credit))
-    (cond (eqb bal (apart t.debit t.credit)) Pass (Fault 13 ((section_at s).balance + 1)))
-    (Fault 12 ((section_at s).sign + 1))
+    (cond (eqb bal (apart t.debit t.credit)) Pass (Fails 13 ((section_at s).balance + 1)))
+    (Fails 12 ((section_at s).sign + 1))
 
 -- 10 to 13
 unfoldable pub balance_on : ℕ → Sums → List ℕ → ℕ → Outcome
 balance_on s t vs sign =
     cond (section_at s).totals
     (cond (eqb (get_or vs 1 0) t.debit)
-    (cond (eqb (get_or vs 2 0) t.credit) (balance_end s t sign (get_or vs 3 0)) (Fault 11 ((section_at s).total_credit + 1)))
-    (Fault 10 ((section_at s).total_debit + 1)))
+    (cond (eqb (get_or vs 2 0) t.credit) (balance_end s t sign (get_or vs 3 0)) (Fails 11 ((section_at s).total_credit + 1)))
+    (Fails 10 ((section_at s).total_debit + 1)))
     (balance_end s t sign (get_or vs 1 0))
 
 -- 14 and 15
 unfoldable pub payment_on : Sums → ℕ → Outcome
-payment_on t v = first (negative_fault t) (cond (eqb v (final_of t)) Pass (Fault 15 36))
+payment_on t v = first (negative_fault t) (cond (eqb v (final_of t)) Pass (Fails 15 36))
 
 -- 16 and 17
 unfoldable pub head_on : List ℕ → ℕ → Outcome
@@ -47,12 +46,12 @@ head_on name v = first (head_name name) (date_fault v)
 unfoldable pub tail_on : State → List ℕ → Outcome
 tail_on st vs =
     cond (eqb (get_or vs 0 0) st.deleghe)
-    (cond (eqb (get_or vs 2 0) (st.seen + 1)) (cond (eqb (get_or vs 1 0) st.money.total) Pass (Fault 20 53)) (Fault 19 83))
-    (Fault 18 46)
+    (cond (eqb (get_or vs 2 0) (st.seen + 1)) (cond (eqb (get_or vs 1 0) st.money.total) Pass (Fails 20 53)) (Fails 19 83))
+    (Fails 18 46)
 
 -- 26, of a code that can exist or not
 unfoldable pub code_on : Bool → Outcome
-code_on right = cond right Pass (Fault 26 11)
+code_on right = cond right Pass (Fails 26 11)
 
 -- 9 to 20 and 26
 unfoldable pub amounts_on : List ℕ → State → Kind → List ℕ → List ℕ → Outcome

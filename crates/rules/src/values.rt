@@ -10,17 +10,18 @@ ghost use Rattle.rules.specs.Stored.{section_sums};
 ghost use Rattle.rules.specs.Values.{head_on, balance_end, balance_on, payment_on, tail_on, code_on, amounts_on, values_on};
 
 use crate::State;
-use amounts::{Outcome, Sums, apart_of, date_right, final_of, line_fault, name_right, sign_of};
+use amounts::{Sums, apart_of, date_right, final_of, line_fault, name_right, sign_of};
 use layout::{Kind, Part, Position};
+use refusal::Fault;
 use taxcode::code_right;
 
 // Check 8, of a record that carries n after d records 10.
-pub fn number_fault(d: u64, k: Kind, n: u64) -> Outcome
+pub fn number_fault(d: u64, k: Kind, n: u64) -> Result<(), Fault>
     requires { d < 1000 }
     ensures { result ≡ number_fault d k n }
 {
     match k {
-        Kind::Head => Outcome::Pass,
+        Kind::Head => Ok(()),
         Kind::Taxpayer => carries(d + 1, n),
         Kind::Domicile => carries(d, n),
         Kind::Line(_) => carries(d, n),
@@ -28,46 +29,61 @@ pub fn number_fault(d: u64, k: Kind, n: u64) -> Outcome
         Kind::Payment => carries(d, n),
         Kind::Receipt => carries(d, n),
         Kind::Addressee => carries(d, n),
-        Kind::Tail => Outcome::Pass,
-        Kind::Unknown => Outcome::Pass,
+        Kind::Tail => Ok(()),
+        Kind::Unknown => Ok(()),
     }
 }
 
-fn carries(expected: u64, n: u64) -> Outcome
+fn carries(expected: u64, n: u64) -> Result<(), Fault>
     ensures { result ≡ carried expected n }
 {
     if n == expected {
-        Outcome::Pass
+        Ok(())
     } else {
-        Outcome::Fault(8, Position::DELEGA_NUMBER)
+        Err(Fault {
+            number: 8,
+            position: Position::DELEGA_NUMBER,
+        })
     }
 }
 
 // Checks 12 and 13, of the character at the sign's column and the stored balance.
-fn balance_end(s: usize, t: Sums, sign: u8, balance: u64) -> Outcome
+fn balance_end(s: usize, t: Sums, sign: u8, balance: u64) -> Result<(), Fault>
     ensures { result ≡ balance_end s t sign balance }
 {
     let section = layout::section_at(s);
     if sign != sign_of(t.debit, t.credit) {
-        return Outcome::Fault(12, section.sign + 1);
+        return Err(Fault {
+            number: 12,
+            position: section.sign + 1,
+        });
     }
     if balance != apart_of(t.debit, t.credit) {
-        return Outcome::Fault(13, section.balance + 1);
+        return Err(Fault {
+            number: 13,
+            position: section.balance + 1,
+        });
     }
-    Outcome::Pass
+    Ok(())
 }
 
 // Checks 10 to 13, of a balance record of section s whose lines have the sums t.
-fn balance_fault(s: usize, t: Sums, vs: [u64; 4], sign: u8) -> Outcome
+fn balance_fault(s: usize, t: Sums, vs: [u64; 4], sign: u8) -> Result<(), Fault>
     ensures { result ≡ balance_on s t vs sign }
 {
     let section = layout::section_at(s);
     if section.totals {
         if vs[1] != t.debit {
-            return Outcome::Fault(10, section.total_debit + 1);
+            return Err(Fault {
+                number: 10,
+                position: section.total_debit + 1,
+            });
         }
         if vs[2] != t.credit {
-            return Outcome::Fault(11, section.total_credit + 1);
+            return Err(Fault {
+                number: 11,
+                position: section.total_credit + 1,
+            });
         }
         return balance_end(s, t, sign, vs[3]);
     }
@@ -75,48 +91,69 @@ fn balance_fault(s: usize, t: Sums, vs: [u64; 4], sign: u8) -> Outcome
 }
 
 // Checks 14 and 15, of a 50-01 that stores v.
-fn payment_fault(t: Sums, v: u64) -> Outcome
+fn payment_fault(t: Sums, v: u64) -> Result<(), Fault>
     ensures { result ≡ payment_on t v }
 {
     if t.debit < t.credit {
-        return Outcome::Fault(14, Position::TYPE);
+        return Err(Fault {
+            number: 14,
+            position: Position::TYPE,
+        });
     }
     if v == final_of(t) {
-        return Outcome::Pass;
+        return Ok(());
     }
-    Outcome::Fault(15, Position::FINAL_BALANCE)
+    Err(Fault {
+        number: 15,
+        position: Position::FINAL_BALANCE,
+    })
 }
 
 // Checks 16 and 17, of the head.
-fn head_fault(name: &[u8], date: u64) -> Outcome
+fn head_fault(name: &[u8], date: u64) -> Result<(), Fault>
     ensures { result ≡ head_on name.now date }
 {
     if name_right(name) {
         if date_right(date) {
-            return Outcome::Pass;
+            return Ok(());
         }
-        return Outcome::Fault(17, Position::CREATION_DATE);
+        return Err(Fault {
+            number: 17,
+            position: Position::CREATION_DATE,
+        });
     }
-    Outcome::Fault(16, Position::SUPPORT_NAME)
+    Err(Fault {
+        number: 16,
+        position: Position::SUPPORT_NAME,
+    })
 }
 
 // Checks 18 to 20, of the tail.
-fn tail_fault(st: State, vs: [u64; 4]) -> Outcome
+fn tail_fault(st: State, vs: [u64; 4]) -> Result<(), Fault>
     requires { st.seen < 1000 }
     ensures { result ≡ tail_on st vs }
 {
     let money = st.money;
     let records = st.seen + 1;
     if vs[0] != st.deleghe {
-        return Outcome::Fault(18, Position::TAIL_DELEGHE);
+        return Err(Fault {
+            number: 18,
+            position: Position::TAIL_DELEGHE,
+        });
     }
     if vs[2] != records as u64 {
-        return Outcome::Fault(19, Position::TAIL_RECORDS);
+        return Err(Fault {
+            number: 19,
+            position: Position::TAIL_RECORDS,
+        });
     }
     if vs[1] != money.total {
-        return Outcome::Fault(20, Position::TAIL_SUM);
+        return Err(Fault {
+            number: 20,
+            position: Position::TAIL_SUM,
+        });
     }
-    Outcome::Pass
+    Ok(())
 }
 
 // The sums of section s in the open delega.
@@ -147,7 +184,7 @@ pub fn section_sums(st: State, s: usize) -> Sums
 }
 
 // Checks 16 and 17, of the head whose date has been read.
-pub fn head_record(rec: &[u8], date: u64) -> Outcome
+pub fn head_record(rec: &[u8], date: u64) -> Result<(), Fault>
     requires { length rec.now ≡ 120 }
     ensures { result ≡ head_on (bytes_of rec.now support_name) date }
 {
@@ -163,16 +200,19 @@ pub fn has_code(rec: &[u8]) -> bool
 }
 
 // Check 26, of a record 10 whose code can exist or not.
-pub fn code_fault(right: bool) -> Outcome
+pub fn code_fault(right: bool) -> Result<(), Fault>
     ensures { result ≡ code_on right }
 {
     if right {
-        return Outcome::Pass;
+        return Ok(());
     }
-    Outcome::Fault(26, Position::TAX_CODE)
+    Err(Fault {
+        number: 26,
+        position: Position::TAX_CODE,
+    })
 }
 
-fn balance_record(st: State, s: usize, rec: &[u8], vs: [u64; 4]) -> Outcome
+fn balance_record(st: State, s: usize, rec: &[u8], vs: [u64; 4]) -> Result<(), Fault>
     requires { length rec.now ≡ 120 }
     ensures { result ≡ balance_on s (section_sums st s) vs (get_or rec.now (section_at s).sign 0) }
 {
@@ -195,18 +235,21 @@ fn same_name(rec: &[u8], name: &[u8]) -> bool
     words::word_at(rec, Part::SUPPORT_NAME + 12) == words::word_at(name, 12)
 }
 
-fn tail_record(st: State, name: &[u8], rec: &[u8], vs: [u64; 4]) -> Outcome
+fn tail_record(st: State, name: &[u8], rec: &[u8], vs: [u64; 4]) -> Result<(), Fault>
     requires { (length rec.now ≡ 120) × (length name.now ≡ 20) × (st.seen < 1000) }
     ensures { result ≡ first (tail_name name.now (bytes_of rec.now support_name)) (tail_on st vs) }
 {
     if same_name(rec, name) {
         return tail_fault(st, vs);
     }
-    Outcome::Fault(16, Position::SUPPORT_NAME)
+    Err(Fault {
+        number: 16,
+        position: Position::SUPPORT_NAME,
+    })
 }
 
 // Checks 9 to 20 and 26, of a record of kind k whose numeric fields hold the values vs.
-fn amounts_fault(st: State, name: &[u8], k: Kind, rec: &[u8], vs: [u64; 4]) -> Outcome
+fn amounts_fault(st: State, name: &[u8], k: Kind, rec: &[u8], vs: [u64; 4]) -> Result<(), Fault>
     requires { (length rec.now ≡ 120) × (length name.now ≡ 20) × (st.seen < 1000) }
     ensures { result ≡ amounts_on name.now st k vs rec.now }
 {
@@ -216,24 +259,22 @@ fn amounts_fault(st: State, name: &[u8], k: Kind, rec: &[u8], vs: [u64; 4]) -> O
     match k {
         Kind::Head => head_record(rec, vs[0]),
         Kind::Taxpayer => code_fault(has_code(rec)),
-        Kind::Domicile => Outcome::Pass,
+        Kind::Domicile => Ok(()),
         Kind::Line(s) => line_fault(s, vs[1], vs[2]),
         Kind::Balance(s) => balance_record(st, s, rec, vs),
         Kind::Payment => payment_fault(all, vs[1]),
-        Kind::Receipt => Outcome::Pass,
-        Kind::Addressee => Outcome::Pass,
+        Kind::Receipt => Ok(()),
+        Kind::Addressee => Ok(()),
         Kind::Tail => tail_record(st, name, rec, vs),
-        Kind::Unknown => Outcome::Pass,
+        Kind::Unknown => Ok(()),
     }
 }
 
 // Checks 8 to 20 and 26.
-pub fn values_fault(st: State, name: &[u8], k: Kind, rec: &[u8], vs: [u64; 4]) -> Outcome
+pub fn values_fault(st: State, name: &[u8], k: Kind, rec: &[u8], vs: [u64; 4]) -> Result<(), Fault>
     requires { (length rec.now ≡ 120) × (length name.now ≡ 20) × (st.seen < 1000) × (st.deleghe < 1000) }
     ensures { result ≡ values_on name.now st k vs rec.now }
 {
-    if let Outcome::Fault(number, position) = number_fault(st.deleghe, k, vs[0]) {
-        return Outcome::Fault(number, position);
-    }
+    number_fault(st.deleghe, k, vs[0])?;
     amounts_fault(st, name, k, rec, vs)
 }

@@ -1,7 +1,7 @@
 -- A balance record that is made, before anything is filled: of its slot's kind, and made of characters.
 use Prim.Native.Nat.{ℕ, ◌<◌}
 use mathlib.Core.Path.{◌≡◌, refl}
-use Rattle.text.specs.declared.Characters.TheVariants.{Allowed}
+use Rattle.text.specs.Answers.{Allowed}
 use Rattle.text.specs.Characters.{first_bad, first_bad_from}
 use Rattle.text.specs.Numbers.{number_from, digits_of}
 use Rattle.text.specs.Placing.{put_at}

@@ -9,8 +9,7 @@ use borrow.Author.Tests.{eqb-true}
 use lib.Dec.{eqb}
 use lib.ListN.{length, take, drop, get_or}
 use lib.Seq.{drop-cons}
-use Rattle.text.specs.declared.Digits.{Digits}
-use Rattle.text.specs.declared.Digits.TheVariants.{Number, NonDigit, TooLong}
+use Rattle.text.specs.Answers.{Digits, Number, NonDigit, TooLong}
 use Rattle.text.specs.Numbers.{digits_of}
 use Rattle.text.proofs.Numerals.{length_digits, digits-of-number}
 use Rattle.text.proofs.Bytes.{part_length}
@@ -21,7 +20,7 @@ use Rattle.layout.specs.declared.Kind.{Kind}
 use Rattle.layout.specs.declared.Kind.TheVariants.{Head, Taxpayer, Domicile, Line, Balance, Payment, Receipt, Addressee, Tail, Unknown}
 use Rattle.layout.specs.Sections.{sections, no_section, section_at}
 use Rattle.layout.specs.Kinds.{same, type_of, section_kind_from, payment_kind, kind_of, type_in, subtype_in, kind_in}
-use Rattle.amounts.specs.declared.Outcome.TheVariants.{Pass}
+use Rattle.refusal.specs.Outcomes.{Pass}
 use Rattle.amounts.proofs.Spelling.{same-itself}
 use Rattle.sheet.specs.Slots.{type_text, subtype_text, slot_fault}
 use Rattle.sheet.specs.Contents.{Slot}

@@ -13,7 +13,7 @@ use Rattle.layout.specs.declared.Kind.{Kind}
 use Rattle.layout.specs.declared.Kind.TheVariants.{Line, Balance}
 use Rattle.layout.specs.Sections.{section_at}
 use Rattle.layout.specs.Kinds.{same, type_of, section_kind_from, payment_kind, kind_of, type_in, kind_in}
-use Rattle.amounts.specs.declared.Outcome.TheVariants.{Pass, Fault}
+use Rattle.refusal.specs.Outcomes.{Pass, Fails}
 use Rattle.amounts.specs.Names.{same_bytes}
 use Rattle.amounts.proofs.Spelling.{same_bytes_lem}
 use Rattle.sheet.specs.Slots.{type_text, subtype_text, slot_fault}
@@ -25,7 +25,7 @@ unfolding slot_fault
 slot-texts k r e = go (same_bytes (take 2 (drop 1 r)) (type_text k)) (same_bytes (take (length (subtype_text k)) (drop 10 r)) (subtype_text k)) refl refl e
   where
     go : (t u : Bool) → same_bytes (take 2 (drop 1 r)) (type_text k) ≡ t → same_bytes (take (length (subtype_text k)) (drop 10 r)) (subtype_text k) ≡ u →
-        cond t (cond u Pass (Fault 4 11)) (Fault 4 2) ≡ Pass → (take 2 (drop 1 r) ≡ type_text k) × (take (length (subtype_text k)) (drop 10 r) ≡ subtype_text k)
+        cond t (cond u Pass (Fails 4 11)) (Fails 4 2) ≡ Pass → (take 2 (drop 1 r) ≡ type_text k) × (take (length (subtype_text k)) (drop 10 r) ≡ subtype_text k)
     go true true p q f = (same_bytes_lem _ _ p, same_bytes_lem _ _ q)
     go true false p q f = (cc, cc)
     go false u p q f = (cc, cc)

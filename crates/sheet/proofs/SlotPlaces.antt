@@ -9,7 +9,7 @@ use lib.ListN.{length, take, drop, get_or}
 use Rattle.layout.specs.declared.RecordType.{RecordType}
 use Rattle.layout.specs.declared.Kind.{Kind}
 use Rattle.layout.specs.Kinds.{same, type_of, type_in, kind_in}
-use Rattle.amounts.specs.declared.Outcome.TheVariants.{Pass, Fault}
+use Rattle.refusal.specs.Outcomes.{Pass, Fails}
 use Rattle.amounts.specs.Names.{same_bytes}
 use Rattle.sheet.specs.Slots.{type_text, subtype_text, slot_fault}
 use Rattle.sheet.specs.Contents.{Slot, head, taxpayer, domicile, line, balance, payment, tail, slot_type, SlotSays, OfItsKind, OtherType, OtherSubtype}
@@ -59,10 +59,10 @@ module _ (r : List ℕ) (l : length r ≡ 120) {k : Kind} (s : Slot k) where
   unfolding slot_fault
   slot-says = go typed subtyped refl refl (slot-exactly r l s)
     where
-      no-fault : {n m : ℕ} → Pass ≡ Fault n m → ⊥
+      no-fault : {n m : ℕ} → Pass ≡ Fails n m → ⊥
       no-fault e = let z : ◌≡◌ {A = ℕ} 0 1 = cc in omega arith
 
-      go : (t u : Bool) → typed ≡ t → subtyped ≡ u → (cond typed (cond subtyped Pass (Fault 4 11)) (Fault 4 2) ≡ Pass) ↔ (kind_in r ≡ k) → SlotSays s r (cond t (cond u Pass (Fault 4 11)) (Fault 4 2))
+      go : (t u : Bool) → typed ≡ t → subtyped ≡ u → (cond typed (cond subtyped Pass (Fails 4 11)) (Fails 4 2) ≡ Pass) ↔ (kind_in r ≡ k) → SlotSays s r (cond t (cond u Pass (Fails 4 11)) (Fails 4 2))
       go true true p q x = OfItsKind (x.0 (rw (p, q)))
       go true false p q x = OtherSubtype (type-told.0 p) (λ e. no-fault (sym (rw (p, q) at (x.1 e))))
       go false u p q x = OtherType (λ e. true≢false (sym (type-told.1 e) ∙ p))

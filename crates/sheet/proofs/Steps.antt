@@ -12,14 +12,13 @@ use Rattle.text.specs.contracts.Digits.{the_type}
 use lib.ListN.{length, take, drop, length-drop}
 use lib.Seq.{drop-drop, length-take-le}
 use Rattle.text.proofs.Numerals.{number-below}
-use Rattle.text.specs.declared.Digits.{Digits}
-use Rattle.text.specs.declared.Digits.TheVariants.{Number, NonDigit, TooLong}
+use Rattle.text.specs.Answers.{Digits, Number, NonDigit, TooLong}
 use Rattle.text.specs.Numbers.{number_of, amount_of}
 use Rattle.layout.specs.declared.Kind.{Kind}
 use Rattle.layout.specs.declared.Kind.TheVariants.{Head, Taxpayer, Domicile, Line, Balance, Payment, Tail}
 use Rattle.sheet.specs.declared.Spot.{Spot}
-use Rattle.sheet.specs.declared.Walked.{Walked}
-use Rattle.sheet.specs.declared.Walked.TheVariants as Way
+use Rattle.sheet.specs.Answers.{Walked}
+use Rattle.sheet.specs.Answers as Way
 use Rattle.sheet.specs.Slots.{made_balance}
 use Rattle.sheet.specs.Sheet.{Entry, entry, Reading, NoSheet, Read, and_then, of_count, one_record, counted, lines_from, one_section, sections_from, one_delega, deleghe_from, at_end, sheet_of}
 use Rattle.sheet.specs.Walk.{count_at, start_spot, beyond_by, Here, Enters, Reaches, Follows}

@@ -8,8 +8,8 @@ use Rattle.rebalance.specs.Rebalance.{flat}
 use Rattle.rebalance.proofs.Flat.{flat_append}
 use Rattle.sheet.specs.declared.Misfit.{Misfit}
 use Rattle.sheet.specs.declared.Spot.{Spot}
-use Rattle.sheet.specs.declared.Walked.{Walked}
-use Rattle.sheet.specs.declared.Walked.TheVariants as Way
+use Rattle.sheet.specs.Answers.{Walked}
+use Rattle.sheet.specs.Answers as Way
 use Rattle.sheet.specs.Slots.{slot_fault}
 use Rattle.sheet.specs.Sheet.{Entry, Reading, NoSheet, Read, before, and_then}
 use Rattle.sheet.specs.Filled.{filled, filled_all}

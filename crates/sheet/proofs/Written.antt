@@ -21,7 +21,7 @@ use Rattle.amounts.specs.Names.{same_bytes}
 use Rattle.amounts.specs.Amounts.{apart, final_of}
 use Rattle.rebalance.specs.Rebalance.{put_all, fits_all}
 use Rattle.layout.specs.declared.Section.{Section}
-use Rattle.text.specs.declared.Digits.TheVariants.{TooLong}
+use Rattle.text.specs.Answers.{TooLong}
 use Rattle.text.specs.Numbers.{read_number}
 use borrow.Author.Tests.{lt-ltb, le-ltb}
 use Rattle.sheet.specs.declared.Misfit.{Misfit}

@@ -6,8 +6,7 @@ use Rattle.layout.specs.declared.RecordType.TheVariants.{F4, T10, T20, T40, T50,
 use Rattle.layout.specs.declared.Kind.{Kind}
 use Rattle.layout.specs.declared.Kind.TheVariants.{Head, Taxpayer, Domicile, Line, Balance, Payment, Tail}
 use Rattle.layout.specs.Kinds.{type_in, kind_in, numbered}
-use Rattle.amounts.specs.declared.Outcome.{Outcome}
-use Rattle.amounts.specs.declared.Outcome.TheVariants.{Pass, Fault}
+use Rattle.refusal.specs.Outcomes.{Outcome, Pass, Fails}
 use Rattle.rules.specs.Step.{next_deleghe}
 use Rattle.rebalance.specs.Rebalance.{flat, Sized}
 use Rattle.sheet.specs.Slots.{made_balance}
@@ -36,8 +35,8 @@ slot_type tail = EF
 -- What may be said of a record in a slot: it is of the slot's kind; or it gets 4, at 2 where its type is not the slot's, else at 11.
 pub data SlotSays {k : Kind} (s : Slot k) (r : List ℕ) : Outcome → Type 0 where
   OfItsKind : kind_in r ≡ k → SlotSays s r Pass
-  OtherType : (type_in r ≡ slot_type s → ⊥) → SlotSays s r (Fault 4 2)
-  OtherSubtype : type_in r ≡ slot_type s → (kind_in r ≡ k → ⊥) → SlotSays s r (Fault 4 11)
+  OtherType : (type_in r ≡ slot_type s → ⊥) → SlotSays s r (Fails 4 2)
+  OtherSubtype : type_in r ≡ slot_type s → (kind_in r ≡ k → ⊥) → SlotSays s r (Fails 4 11)
 
 -- A delega as it is keyed: 10, 20, the lines of each section, 50-01.
 pub record Delega : Type 0 where

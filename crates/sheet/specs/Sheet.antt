@@ -1,8 +1,7 @@
 -- Believed. A working sheet: "F4, a count of deleghe in three digits, per delega its records 10 and 20, the five sections in 01's order, each as a count in two
 -- digits and its line records, then its 50-01; last an EF". Reading one gives the records to be written, each with its slot, or says that the bytes are no sheet.
 use Rattle.std.specs.Prelude.{ℕ, zero, suc, ◌+◌, cond, List, [], ◌∷◌, ◌++◌, eqb, ltb, length, take, drop}
-use Rattle.text.specs.declared.Digits.{Digits}
-use Rattle.text.specs.declared.Digits.TheVariants.{Number, NonDigit, TooLong}
+use Rattle.text.specs.Answers.{Digits, Number, NonDigit, TooLong}
 use Rattle.text.specs.Numbers.{number_of}
 use Rattle.layout.specs.declared.Kind.{Kind}
 use Rattle.layout.specs.declared.Kind.TheVariants.{Head, Taxpayer, Domicile, Line, Balance, Payment, Tail}

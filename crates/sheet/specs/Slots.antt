@@ -5,8 +5,7 @@ use Rattle.text.specs.Placing.{put_at}
 use Rattle.layout.specs.declared.Kind.{Kind}
 use Rattle.layout.specs.declared.Kind.TheVariants.{Head, Taxpayer, Domicile, Line, Balance, Payment, Receipt, Addressee, Tail, Unknown}
 use Rattle.layout.specs.Sections.{at, section_at}
-use Rattle.amounts.specs.declared.Outcome.{Outcome}
-use Rattle.amounts.specs.declared.Outcome.TheVariants.{Pass, Fault}
+use Rattle.refusal.specs.Outcomes.{Outcome, Pass, Fails}
 use Rattle.amounts.specs.Names.{same_bytes}
 
 -- "type at 2-3": F4, 10, 20, 40, 50, EF; spaces, which are no type, for no kind
@@ -39,8 +38,8 @@ subtype_text Unknown = []
 unfoldable pub slot_fault : Kind → List ℕ → Outcome
 slot_fault k r =
     cond (same_bytes (take 2 (drop (at 2) r)) (type_text k))
-    (cond (same_bytes (take (length (subtype_text k)) (drop (at 11) r)) (subtype_text k)) Pass (Fault 4 11))
-    (Fault 4 2)
+    (cond (same_bytes (take (length (subtype_text k)) (drop (at 11) r)) (subtype_text k)) Pass (Fails 4 11))
+    (Fails 4 2)
 
 -- "The writer makes the balance records (columns that 01 doesn't name are spaces)": before its number and its sums are filled, section x's has its type and its subtype
 unfoldable pub made_balance : ℕ → List ℕ

@@ -1,15 +1,13 @@
 -- Serves inner functions. How far a sheet has been read, and what stands in the flow by then.
-use Rattle.std.specs.Prelude.{ℕ, ◌+◌, ◌*◌, ◌≤◌, ◌≡◌, cond, List, [], ◌∷◌, ◌++◌, eqb, ltb, length, take, drop}
-use Rattle.text.specs.declared.Digits.{Digits}
-use Rattle.text.specs.declared.Digits.TheVariants.{TooLong}
+use Rattle.std.specs.Prelude.{ℕ, ◌+◌, ◌*◌, ◌≤◌, ◌≡◌, cond, List, [], ◌∷◌, ◌++◌, eqb, ltb, length, take, drop, Err}
+use Rattle.text.specs.Answers.{Digits, TooLong}
 use Rattle.text.specs.Numbers.{number_of}
-use Rattle.amounts.specs.declared.Outcome.{Outcome}
-use Rattle.amounts.specs.declared.Outcome.TheVariants.{Pass, Fault}
+use Rattle.refusal.specs.Outcomes.{Outcome, Pass, Fails}
 use Rattle.rebalance.specs.Rebalance.{flat}
 use Rattle.sheet.specs.declared.Misfit.{Misfit}
 use Rattle.sheet.specs.declared.Spot.{Spot}
-use Rattle.sheet.specs.declared.Walked.{Walked}
-use Rattle.sheet.specs.declared.Walked.TheVariants as Way
+use Rattle.sheet.specs.Answers.{Walked}
+use Rattle.sheet.specs.Answers as Way
 use Rattle.sheet.specs.Slots.{slot_fault}
 use Rattle.sheet.specs.Sheet.{Entry, Reading, NoSheet, Read}
 use Rattle.sheet.specs.Filled.{filled, filled_all}
@@ -17,7 +15,7 @@ use Rattle.sheet.specs.Filled.{filled, filled_all}
 -- the first record that is not of its slot's kind: the one so far, else the n-th where it is none
 abbrev pub or_misfit : Misfit → ℕ → Outcome → Misfit
 or_misfit m n Pass = m
-or_misfit m n (Fault e p) = cond (eqb m.at 0) (record { at = n; position = p }) m
+or_misfit m n (Err why) = cond (eqb m.at 0) (record { at = n; position = why.position }) m
 
 -- the same of more records, behind the first n
 unfoldable pub misfit_from : List ℕ → ℕ → List Entry → Misfit → Misfit

@@ -55,18 +55,18 @@ fn subtype_fits(slot: Kind, rec: &[u8]) -> bool
 }
 
 // 4, of a record that is not of its slot's kind.
-pub fn slot_fault(slot: Kind, rec: &[u8]) -> Outcome
+pub fn slot_fault(slot: Kind, rec: &[u8]) -> Result<(), Fault>
     requires { length rec.now ≡ 120 }
     ensures { result ≡ slot_fault slot rec.now }
 {
     let own = type_text(slot);
     if amounts::same_bytes(&rec[Part::TYPE..Part::TYPE + 2], &own) {
         if subtype_fits(slot, rec) {
-            return Outcome::Pass;
+            return Ok(());
         }
-        return Outcome::Fault(4, Position::SUBTYPE);
+        return Err(Fault { number: 4, position: Position::SUBTYPE });
     }
-    Outcome::Fault(4, Position::TYPE)
+    Err(Fault { number: 4, position: Position::TYPE })
 }
 
 // The balance record that closes the lines of section x, before its number and its sums are filled: its type, the subtype that is decided for these lines, and

@@ -12,7 +12,7 @@ use Rattle.rules.specs.Step.{next}
 use Rattle.rules.proofs.Growth.{start-below}
 use Rattle.state.proofs.Rooms.{five-of}
 use Rattle.judge.specs.declared.Judgement.{Judgement}
-use Rattle.judge.specs.declared.Verdict.TheVariants.{Accepted}
+use Rattle.judge.specs.Refusal.{Accepted}
 use Rattle.judge.specs.Flow.{records_of, rest_of, judged}
 use Rattle.judge.specs.Plain.{Side, Debit, Credit, side_of, section_in, state_after}
 use Rattle.judge.proofs.Accepted.{accepted-means-no-fault, sound-judged}

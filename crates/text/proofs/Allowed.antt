@@ -8,8 +8,7 @@ use native.Mathlib.Nat.{add-zero, add-suc}
 use borrow.Author.Tests.{lt-ltb, le-ltb}
 use lib.ListN.{length, take, drop, get_or, drop_of_length-le}
 use lib.Seq.{take-add, take-take, take-nil, take-length}
-use Rattle.text.specs.declared.Characters.{Characters}
-use Rattle.text.specs.declared.Characters.TheVariants.{Allowed, BadAt}
+use Rattle.text.specs.Answers.{Characters, Allowed, BadAt}
 use Rattle.text.specs.Characters.{allowed, first_bad_from, first_bad, is_allowed, all_allowed}
 use Rattle.text.specs.Numbers.{digits_of}
 use Rattle.text.proofs.Bytes.{drop-one, between, within}

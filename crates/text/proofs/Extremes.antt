@@ -8,7 +8,7 @@ use borrow.Author.Tests.{lt-ltb, le-ltb, ltb-true, ltb-false, le-leb, lt-leb}
 use lib.Dec.{ltb, leb}
 use lib.ListN.{length, take, drop, get_or}
 use lib.Seq.{drop-drop}
-use Rattle.text.specs.declared.Characters.TheVariants.{BadAt}
+use Rattle.text.specs.Answers.{BadAt}
 use Rattle.text.specs.Characters.{first_bad_from, is_allowed, all_allowed}
 use Rattle.text.proofs.Bytes.{drop-one}
 use Rattle.text.proofs.Allowed.{bad-end, all-cut}

@@ -7,7 +7,7 @@ use native.Mathlib.Omega.{arith}
 use borrow.Author.Tests.{le-leb, lt-leb, leb-true, lt-ltb, ltb-true}
 use lib.Dec.{ltb}
 use lib.ListN.{length, replicate, length-replicate}
-use Rattle.text.specs.declared.Put.TheVariants.{Written, Unfit}
+use Rattle.text.specs.Answers.{Written, Unfit}
 use Rattle.text.specs.Numbers.{digits_of}
 use Rattle.text.proofs.Puts.{put_whole}
 use Rattle.text.specs.Placing.{put_at, part_fits, number_fits, part_answer, part_bytes, number_answer, number_bytes}

@@ -8,8 +8,7 @@ use borrow.Author.Tests.{ltb-true, ltb-false}
 use lib.Dec.{ltb}
 use lib.ListN.{length, get_or, get_or-append}
 use lib.Seq.{get_or-append_seam}
-use Rattle.text.specs.declared.Digits.{Digits}
-use Rattle.text.specs.declared.Digits.TheVariants.{Number, NonDigit}
+use Rattle.text.specs.Answers.{Digits, Number, NonDigit}
 use Rattle.text.specs.Numbers.{digit, number_from, number_of, digits_of}
 use Rattle.text.proofs.Bytes.{within}
 use Rattle.text.proofs.Numerals.{length_digits}

@@ -9,7 +9,7 @@ use native.Mathlib.Nat.{lt_of_lt_of_le, pow-le-pow_right, pow-suc, one-le-pow, m
 use borrow.Author.Tests.{lt-ltb, le-ltb, ltb-true, ltb-false}
 use lib.Dec.{ltb, eqb, eqb-suc-zero, lit<}
 use lib.ListN.{length, drop, get_or, length-append, drop_of_length-le}
-use Rattle.text.specs.declared.Digits.TheVariants.{Number, NonDigit, TooLong}
+use Rattle.text.specs.Answers.{Number, NonDigit, TooLong}
 use Rattle.text.specs.Numbers.{digit, number_from, number_of, amount_of, read_number, digits_of}
 use Rattle.text.proofs.Bytes.{drop-one, between, within}
 

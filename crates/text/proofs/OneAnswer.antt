@@ -3,9 +3,7 @@ use Prim.Native.Nat.{ℕ}
 use mathlib.Core.Path.{◌≡◌, sym, ◌∙◌}
 use mathlib.Core.Bool.{Bool}
 use mathlib.Core.List.{List}
-use Rattle.text.specs.declared.Characters.{Characters}
-use Rattle.text.specs.declared.Digits.{Digits}
-use Rattle.text.specs.declared.Put.{Put}
+use Rattle.text.specs.Answers.{Characters, Digits, Put}
 use Rattle.text.specs.Characters.{first_bad, all_allowed}
 use Rattle.text.specs.Numbers.{read_number}
 use Rattle.text.specs.Placing.{number_answer, number_bytes, part_answer, part_bytes}

@@ -5,7 +5,7 @@ use mathlib.Core.List.{List, ◌++◌, append_assoc}
 use native.Mathlib.Omega.{arith}
 use lib.ListN.{length, take, drop, get_or, length-append, length-drop, take-append-drop, get_or-append}
 use lib.Seq.{take_all, length-take-le, drop-append-le, take-append-le, take_at, drop_at, get_or-take, get_or-drop, drop-drop}
-use Rattle.text.specs.declared.Characters.TheVariants.{Allowed}
+use Rattle.text.specs.Answers.{Allowed}
 use Rattle.text.specs.Characters.{first_bad}
 use Rattle.text.specs.Placing.{put_at}
 use Rattle.text.proofs.Allowed.{allowed-append, allowed-take, allowed-drop}

@@ -1,8 +1,7 @@
 -- Believed; `is_allowed` and `all_allowed` serve inner functions. The characters that a record may hold, and the first byte of a part that is none of them.
 use Rattle.std.specs.Prelude.{ℕ, ◌+◌, List, [], ◌∷◌, Bool, true, false, cond}
 use Rattle.text.specs.Among.{from_to}
-use Rattle.text.specs.declared.Characters.{Characters}
-use Rattle.text.specs.declared.Characters.TheVariants.{Allowed, BadAt}
+use Rattle.text.specs.Answers.{Characters, Allowed, BadAt}
 
 -- A byte outside 32 to 126 is no character of a flow.
 abbrev pub allowed : ℕ → Bool

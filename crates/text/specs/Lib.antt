@@ -1,3 +1,4 @@
+pub mod Answers
 pub mod Among
 pub mod Characters
 pub mod Numbers

@@ -1,8 +1,7 @@
 -- Believed. Numbers in decimal digits: what a field of digits says, and how a number is written.
 use Rattle.std.specs.Prelude.{ℕ, zero, suc, ◌+◌, ◌-◌, ◌*◌, ◌/◌, ◌%◌, List, [], ◌∷◌, ◌++◌, Bool, cond, ltb, length}
 use Rattle.text.specs.Among.{from_to}
-use Rattle.text.specs.declared.Digits.{Digits}
-use Rattle.text.specs.declared.Digits.TheVariants.{Number, NonDigit, TooLong}
+use Rattle.text.specs.Answers.{Digits, Number, NonDigit, TooLong}
 
 -- A digit is a byte from 48 to 57.
 abbrev pub digit : ℕ → Bool

@@ -1,7 +1,6 @@
 -- Believed. Bytes put at a place of a room, and numbers put there in digits.
 use Rattle.std.specs.Prelude.{ℕ, ◌+◌, ◌^◌, List, ◌++◌, Bool, false, cond, ltb, leb, length, take, drop}
-use Rattle.text.specs.declared.Put.{Put}
-use Rattle.text.specs.declared.Put.TheVariants.{Written, Unfit}
+use Rattle.text.specs.Answers.{Put, Written, Unfit}
 use Rattle.text.specs.Numbers.{digits_of}
 
 -- The bytes bs stand at s, and every other byte of r stays.

@@ -8,23 +8,11 @@ ghost use Rattle.text.specs.Numbers.{read_number, digits_of};
 ghost use Rattle.text.specs.Placing.{put_at, part_fits, number_fits, part_answer, part_bytes, number_answer, number_bytes};
 ghost use Rattle.text.specs.Same.{same_bytes};
 
-#[derive(Clone, Copy)]
-pub enum Characters {
-    Allowed,
-    BadAt(usize),
-}
-
-#[derive(Clone, Copy)]
-pub enum Digits {
-    Number(u64),
+// Why a field says no number: a byte that is no digit, by its offset, or more than fifteen bytes.
+#[derive(Clone, Copy, PartialEq, Eq)]
+pub enum DigitsError {
     NonDigit(usize),
     TooLong,
-}
-
-#[derive(Clone, Copy)]
-pub enum Put {
-    Written,
-    Unfit,
 }
 
 fn lesser(a: u8, b: u8) -> u8
@@ -103,54 +91,54 @@ pub fn long_allowed(part: &[u8]) -> bool
 }
 
 // A part that is not allowed is searched, so that the offset of its first bad byte can be told.
-fn search_bad(part: &[u8]) -> Characters
+fn search_bad(part: &[u8]) -> Option<usize>
     ensures { result ≡ first_bad part.now }
 {
     let mut i: usize = 0;
     while i < part.len() {
         let b = part[i];
         if b < 32 {
-            return Characters::BadAt(i);
+            return Some(i);
         }
         if 126 < b {
-            return Characters::BadAt(i);
+            return Some(i);
         }
         i += 1;
     }
-    Characters::Allowed
+    None
 }
 
 // Nearly every part of a flow is allowed, so that the search for it is seldom needed.
-pub fn first_bad(part: &[u8]) -> Characters
+pub fn first_bad(part: &[u8]) -> Option<usize>
     ensures { result ≡ first_bad part.now }
 {
     if all_allowed(part) {
-        return Characters::Allowed;
+        return None;
     }
     search_bad(part)
 }
 
 // The number that a field of at most fifteen digits says. A longer part is refused, so that the sum below never wraps.
-pub fn number(part: &[u8]) -> Digits
+pub fn number(part: &[u8]) -> Result<u64, DigitsError>
     ensures { result ≡ read_number part.now }
 {
     if 15 < part.len() {
-        return Digits::TooLong;
+        return Err(DigitsError::TooLong);
     }
     let mut i: usize = 0;
     let mut n: u64 = 0;
     while i < part.len() {
         let b = part[i] as u64;
         if b < 48 {
-            return Digits::NonDigit(i);
+            return Err(DigitsError::NonDigit(i));
         }
         if 57 < b {
-            return Digits::NonDigit(i);
+            return Err(DigitsError::NonDigit(i));
         }
         n = n * 10 + (b - 48);
         i += 1;
     }
-    Digits::Number(n)
+    Ok(n)
 }
 
 // The tests go by a difference, since a sum of any place and any width could wrap.
@@ -215,26 +203,26 @@ fn write_part(room: &mut [u8], at: usize, part: &[u8])
     }
 }
 
-// A number in `width` digits at `at`. Nothing is written unless all of it fits, so that a record is never left half written.
-pub fn put_number(room: &mut [u8], at: usize, width: usize, n: u64) -> Put
+// A number in `width` digits at `at`; whether it is written. Nothing is written unless all of it fits, so that a record is never left half written.
+pub fn put_number(room: &mut [u8], at: usize, width: usize, n: u64) -> bool
     ensures { (result ≡ number_answer at width n room.old) × (room.new ≡ number_bytes at width n room.old) }
 {
     if number_fits(at, width, n, room.len()) {
         write_digits(&mut *room, at, width, n);
-        return Put::Written;
+        return true;
     }
-    Put::Unfit
+    false
 }
 
-// The bytes of a part at `at`. Nothing is written unless all of it fits, so that a record is never left half written.
-pub fn put_part(room: &mut [u8], at: usize, part: &[u8]) -> Put
+// The bytes of a part at `at`; whether they are written. Nothing is written unless all of it fits, so that a record is never left half written.
+pub fn put_part(room: &mut [u8], at: usize, part: &[u8]) -> bool
     ensures { (result ≡ part_answer at part.now room.old) × (room.new ≡ part_bytes at part.now room.old) }
 {
     if part_fits(at, part.len(), room.len()) {
         write_part(&mut *room, at, part);
-        return Put::Written;
+        return true;
     }
-    Put::Unfit
+    false
 }
 
 // Whether two parts hold the same bytes.

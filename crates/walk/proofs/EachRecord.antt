@@ -9,13 +9,12 @@ use borrow.Author.Tests.{lt-ltb, le-ltb, ltb-true, ltb-false}
 use lib.Dec.{ltb}
 use lib.ListN.{length}
 use denote.Ref.{Bor}
-use Rattle.judge.specs.declared.Verdict.TheVariants.{Accepted}
+use Rattle.judge.specs.Refusal.{Accepted}
 use Rattle.judge.specs.Flow.{records_of, judged}
 use Rattle.judge.proofs.Accepted.{accepted-means-no-fault}
 use Rattle.judge.proofs.Records.{length-chunks, record-there, record-number}
 use Rattle.walk.specs.declared.WalkPlace.{WalkPlace}
-use Rattle.walk.specs.declared.Answer.{Answer}
-use Rattle.walk.specs.declared.Answer.TheVariants.{Shown, NoMore}
+use Rattle.walk.specs.Answers.{Answer, Shown, NoMore}
 use Rattle.walk.specs.declared.Walker.{Walker}
 use Rattle.walk.specs.declared.Stepped.{Stepped}
 use Rattle.walk.specs.Walk.{place_next, answer_at, place_after, HandedBack, walker_at, SteppedOn}

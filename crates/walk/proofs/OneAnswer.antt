@@ -5,7 +5,7 @@ use mathlib.Core.Path.{◌≡◌, refl, sym, ap, ◌∙◌}
 use mathlib.Core.List.{List}
 use denote.Ref.{Bor}
 use Rattle.walk.specs.declared.WalkPlace.{WalkPlace}
-use Rattle.walk.specs.declared.Answer.{Answer}
+use Rattle.walk.specs.Answers.{Answer}
 use Rattle.walk.specs.declared.Step.{Step}
 use Rattle.walk.specs.declared.Walker.{Walker}
 use Rattle.walk.specs.declared.Stepped.{Stepped}

@@ -1,10 +1,10 @@
 -- On a refused flow each `step_on` hands back the flow's refusal with an empty part, and the walker stays.
 use Prim.Native.Nat.{ℕ}
 use mathlib.Core.Path.{◌≡◌, sym, ap, ◌∙◌}
-use Rattle.judge.specs.declared.Verdict.TheVariants as Judged
+use Rattle.judge.specs.Refusal as Judged
 use Rattle.judge.specs.Refusal.{refusal_of}
 use Rattle.judge.specs.Flow.{judged}
-use Rattle.walk.specs.declared.Answer.TheVariants.{Refused}
+use Rattle.walk.specs.Answers.{Refused}
 use Rattle.walk.specs.declared.Walker.{Walker}
 use Rattle.walk.specs.declared.Stepped.{Stepped}
 use Rattle.walk.specs.Walk.{refusal_in, answer_at, SteppedOn}

@@ -4,7 +4,7 @@ use Rattle.std.specs.Borrow.{Bor}
 use Rattle.judge.specs.Refusal.{refusal_of}
 use Rattle.judge.specs.Flow.{records_of, judged}
 use Rattle.judge.specs.Part.{LiesAt}
-use Rattle.walk.specs.declared.Answer.TheVariants.{Shown, NoMore, Refused}
+use Rattle.walk.specs.Answers.{Shown, NoMore, Refused}
 use Rattle.walk.specs.declared.Walker.{Walker}
 use Rattle.walk.specs.declared.Stepped.{Stepped}
 use Rattle.walk.specs.Walk.{refusal_in, walker_at, SteppedOn}

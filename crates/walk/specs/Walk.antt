@@ -1,12 +1,13 @@
 -- Believed. The walk over a flow: its answers, its places, the parts of the flow that it shows, and what is promised of a step.
-use Rattle.std.specs.Prelude.{ℕ, ◌+◌, ◌/◌, ◌≡◌, cond, List, [], ltb, length}
+use Rattle.std.specs.Prelude.{ℕ, ◌+◌, ◌/◌, ◌≡◌, cond, List, [], ltb, length, Err}
 use Rattle.std.specs.Borrow.{Bor}
-use Rattle.judge.specs.Refusal.{Refusal, refusal, no_refusal, judged_first}
+use Rattle.refusal.specs.declared.Refusal.{Refusal}
+use Rattle.refusal.specs.Refusals.{refusal, no_refusal}
+use Rattle.judge.specs.Refusal.{judged_first}
 use Rattle.judge.specs.Flow.{judged}
 use Rattle.judge.specs.Part.{record_at, record_start, LiesAt}
 use Rattle.walk.specs.declared.WalkPlace.{WalkPlace}
-use Rattle.walk.specs.declared.Answer.{Answer}
-use Rattle.walk.specs.declared.Answer.TheVariants.{Shown, NoMore, Refused}
+use Rattle.walk.specs.Answers.{Answer, Shown, NoMore, Refused}
 use Rattle.walk.specs.declared.Step.{Step}
 use Rattle.walk.specs.declared.Walker.{Walker}
 use Rattle.walk.specs.declared.Stepped.{Stepped}
@@ -15,7 +16,7 @@ use Rattle.walk.specs.declared.Stepped.{Stepped}
 abbrev pub refusal_in : Answer → Refusal
 refusal_in (Shown k) = no_refusal
 refusal_in NoMore = no_refusal
-refusal_in (Refused n r p) = refusal n r p
+refusal_in (Err why) = refusal why.number why.«record» why.position
 
 -- "forward only": one more, where a usize holds it
 unfoldable pub place_next : WalkPlace → WalkPlace
@@ -29,7 +30,7 @@ answer_at f p = judged_first Refused (judged f).verdict (cond (ltb p.shown (leng
 abbrev pub place_after : Answer → WalkPlace → WalkPlace
 place_after (Shown k) p = place_next p
 place_after NoMore p = p
-place_after (Refused n r q) p = p
+place_after (Err why) p = p
 
 -- "walks an accepted flow record by record": the answer of a step, and the place after it
 abbrev pub step_at : List ℕ → WalkPlace → Step
@@ -39,13 +40,13 @@ step_at f p = record { answer = answer_at f p; next = place_after (answer_at f p
 abbrev pub part_in : List ℕ → Answer → List ℕ
 part_in f (Shown k) = record_at f k
 part_in f NoMore = []
-part_in f (Refused n r p) = []
+part_in f (Err why) = []
 
 -- "as a part of the flow": the index at which the part for an answer starts
 abbrev pub start_in : List ℕ → Answer → ℕ
 start_in f (Shown k) = record_start f k
 start_in f NoMore = 0
-start_in f (Refused n r p) = 0
+start_in f (Err why) = 0
 
 -- "hands back the k-th record as a part of the flow": what is promised of the part for an answer
 abbrev pub HandedBack : Bor (List ℕ) → Answer → Bor (List ℕ) → Type 0

@@ -4,9 +4,8 @@ use mathlib.Core.Path.{◌≡◌, refl, ap}
 use mathlib.Core.List.{List, [], ◌∷◌}
 use native.Mathlib.Omega.{arith}
 use lib.ListN.{length}
-use Rattle.text.specs.declared.Digits.{Digits}
-use Rattle.text.specs.declared.Digits.TheVariants.{Number, NonDigit, TooLong}
-use Rattle.words.specs.declared.Fifteen.TheVariants as Said
+use Rattle.text.specs.Answers.{Digits, Number, NonDigit, TooLong}
+use Rattle.words.specs.Answers as Said
 use Rattle.text.specs.Numbers.{number_from, number_of}
 use Rattle.words.specs.Words.{fifteen_of, AtMost}
 use Rattle.words.specs.Words.AtMost.{none, also}

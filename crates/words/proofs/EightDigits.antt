@@ -6,7 +6,7 @@ use native.Mathlib.Omega.{arith}
 use lib.Bits.{bit_and, bit_xor, and_block, xor_block, and_high, and_mask, xor_add_and, xor_lt, and_le_l}
 use lib.Dec.{lit<}
 use lib.ListN.{length, replicate}
-use Rattle.words.specs.declared.Fifteen.TheVariants as Said
+use Rattle.words.specs.Answers as Said
 use Rattle.text.specs.Numbers.{number_of}
 use Rattle.words.specs.Words.{word_by, word, fifteen_of, AtMost, Spelt}
 use Rattle.words.specs.Words.AtMost.{also}

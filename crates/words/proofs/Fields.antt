@@ -7,7 +7,7 @@ use native.Mathlib.Nat.{mod-eq_of_lt, div-eq_of_lt, div-add-mod', mul-add-mod_se
 use lib.Bits.{bit_and, and_block, and_mask, and_zero_r}
 use lib.Pow.{pow-add}
 use lib.ListN.{length, take, drop, get_or, replicate}
-use Rattle.text.specs.declared.Characters.TheVariants.{Allowed}
+use Rattle.text.specs.Answers.{Allowed}
 use Rattle.text.specs.Characters.{first_bad}
 use Rattle.text.specs.Numbers.{digits_of}
 use Rattle.words.specs.Words.{word_by, word, AtMost}

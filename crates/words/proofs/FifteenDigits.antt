@@ -7,9 +7,8 @@ use native.Mathlib.Omega.{arith}
 use native.Mathlib.Nat.{pow-suc}
 use lib.ListN.{length, take, drop, get_or, length-drop, take-append-drop}
 use lib.Seq.{take-add, take-take, take-suc, drop-drop, drop_at, length-take-le}
-use Rattle.text.specs.declared.Digits.{Digits}
-use Rattle.text.specs.declared.Digits.TheVariants.{Number, NonDigit, TooLong}
-use Rattle.words.specs.declared.Fifteen.TheVariants as Said
+use Rattle.text.specs.Answers.{Digits, Number, NonDigit, TooLong}
+use Rattle.words.specs.Answers as Said
 use Rattle.text.specs.Numbers.{digit, number_from, number_of, amount_of, digits_of}
 use Rattle.words.specs.Words.{word_by, word, fifteen_of, AtMost, Spelt, Halves}
 use Rattle.text.proofs.Bytes.{part_length}

@@ -4,7 +4,7 @@ use mathlib.Core.Path.{◌≡◌, sym, ◌∙◌}
 use mathlib.Core.List.{List}
 use lib.ListN.{take, drop, get_or}
 use Rattle.text.specs.Numbers.{number_of, digits_of}
-use Rattle.words.specs.declared.Fifteen.{Fifteen}
+use Rattle.words.specs.Answers.{Fifteen}
 use Rattle.words.specs.Words.{word, fifteen_of}
 
 -- `pair_at`

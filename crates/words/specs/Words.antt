@@ -1,9 +1,8 @@
 -- Serves inner functions. Several bytes taken as one number, the first one lowest, and what fifteen characters say.
 use Rattle.std.specs.Prelude.{ℕ, ◌+◌, ◌*◌, ◌^◌, ◌≤◌, ◌≡◌, List, [], ◌∷◌, length, take, drop}
-use Rattle.text.specs.declared.Digits.{Digits}
-use Rattle.text.specs.declared.Digits.TheVariants.{Number, NonDigit, TooLong}
-use Rattle.words.specs.declared.Fifteen.{Fifteen}
-use Rattle.words.specs.declared.Fifteen.TheVariants as Said
+use Rattle.text.specs.Answers.{Digits, Number, NonDigit, TooLong}
+use Rattle.words.specs.Answers.{Fifteen}
+use Rattle.words.specs.Answers as Said
 
 -- A list of fields of k bits as one number.
 unfoldable pub word_by : ℕ → List ℕ → ℕ

@@ -3,17 +3,10 @@
 #![tactic(auto)]
 
 ghost use Rattle.std.specs.Prelude.{◌≡◌, ◌+◌, ◌*◌, ◌<◌, ◌≤◌, length, take, drop, get_or};
-ghost use Rattle.text.specs.declared.Characters.TheVariants.{Allowed};
+ghost use Rattle.text.specs.Answers.{Allowed};
 ghost use Rattle.text.specs.Characters.{first_bad};
 ghost use Rattle.text.specs.Numbers.{number_of, digits_of};
 ghost use Rattle.words.specs.Words.{word, fifteen_of, Spelt, Halves};
-
-// What the characters of an amount, or eight of its fifteen, say: a number, or nothing where one of them is no digit.
-#[derive(Clone, Copy)]
-pub enum Fifteen {
-    Amount(u64),
-    NonDigit,
-}
 
 // Two bytes of a part.
 pub fn pair_at(part: &[u8], at: usize) -> u64
@@ -43,42 +36,38 @@ pub fn word_at(part: &[u8], at: usize) -> u64
     four_at(part, at) + four_at(part, at + 4) * 0x1_0000_0000
 }
 
-// Eight digits in a word, read with arithmetic on the whole of it: each digit, pairs, fours, all of them.
-fn eight_in(w: u64) -> Fifteen
+// The number that eight digits in a word say, or none where one of them is no digit, read with arithmetic on the whole of it: each digit, pairs, fours, all of them.
+fn eight_in(w: u64) -> Option<u64>
     requires { Spelt w }
     ensures { (s : Spelt w) → result ≡ fifteen_of (number_of s.chars) }
 {
     let y = w ^ 0x3030_3030_3030_3030;
     if (y + 0x7676_7676_7676_7676) & 0x8080_8080_8080_8080 != 0 {
-        return Fifteen::NonDigit;
+        return None;
     }
     let pairs = (y * 10 + y / 0x100) & 0x00ff_00ff_00ff_00ff;
     let fours = (pairs * 100 + pairs / 0x1_0000) & 0x0000_ffff_0000_ffff;
-    Fifteen::Amount((fours * 10000 + fours / 0x1_0000_0000) % 0x1_0000_0000)
+    Some((fours * 10000 + fours / 0x1_0000_0000) % 0x1_0000_0000)
 }
 
-// The amount that fifteen characters say, by the words of the first and of the last eight: nearly always the first eight are zeros, and often all.
-fn fifteen_in(front: u64, back: u64) -> Fifteen
+// The amount that fifteen characters say, or none where one of them is no digit, by the words of the first and of the last eight: nearly always the first eight are zeros, and often all.
+fn fifteen_in(front: u64, back: u64) -> Option<u64>
     requires { Halves front back }
     ensures { (s : Halves front back) → result ≡ fifteen_of (number_of s.chars) }
 {
     if front == 0x3030_3030_3030_3030 {
         if back == 0x3030_3030_3030_3030 {
-            return Fifteen::Amount(0);
+            return Some(0);
         }
         return eight_in(back);
     }
-    let Fifteen::Amount(high) = eight_in(front) else {
-        return Fifteen::NonDigit;
-    };
-    let Fifteen::Amount(low) = eight_in(back) else {
-        return Fifteen::NonDigit;
-    };
-    Fifteen::Amount(high / 10 * 1_0000_0000 + low)
+    let high = eight_in(front)?;
+    let low = eight_in(back)?;
+    Some(high / 10 * 1_0000_0000 + low)
 }
 
 // The amount that fifteen characters of a part say.
-pub fn amount_at(part: &[u8], at: usize) -> Fifteen
+pub fn amount_at(part: &[u8], at: usize) -> Option<u64>
     requires { (at + 15 ≤ length part.now) × (first_bad part.now ≡ Allowed) }
     ensures { result ≡ fifteen_of (number_of (take 15 (drop at part.now))) }
 {
@@ -86,17 +75,17 @@ pub fn amount_at(part: &[u8], at: usize) -> Fifteen
 }
 
 // The same of a part with any bytes: one with its top bit set is no digit, and leaves no room for the arithmetic.
-pub fn any_amount_at(part: &[u8], at: usize) -> Fifteen
+pub fn any_amount_at(part: &[u8], at: usize) -> Option<u64>
     requires { at + 15 ≤ length part.now }
     ensures { result ≡ fifteen_of (number_of (take 15 (drop at part.now))) }
 {
     let front = word_at(part, at);
     let back = word_at(part, at + 7);
     if front & 0x8080_8080_8080_8080 != 0 {
-        return Fifteen::NonDigit;
+        return None;
     }
     if back & 0x8080_8080_8080_8080 != 0 {
-        return Fifteen::NonDigit;
+        return None;
     }
     fifteen_in(front, back)
 }

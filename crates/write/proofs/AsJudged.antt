@@ -1,13 +1,12 @@
 -- The fault of a record to be written is the judge's own, of the record as it would be written: every filled field is taken as right.
+use Rattle.std.specs.Prelude.{Err}
 use Prim.Native.Nat.{ℕ}
 use mathlib.Core.Path.{◌≡◌, refl}
 use mathlib.Core.List.{List}
 use lib.ListN.{length}
-use Rattle.text.specs.declared.Characters.{Characters}
-use Rattle.text.specs.declared.Characters.TheVariants.{Allowed, BadAt}
+use Rattle.text.specs.Answers.{Characters, Allowed, BadAt}
 use Rattle.text.specs.Characters.{first_bad}
-use Rattle.amounts.specs.declared.Outcome.{Outcome}
-use Rattle.amounts.specs.declared.Outcome.TheVariants.{Pass, Fault}
+use Rattle.refusal.specs.Outcomes.{Outcome, Pass, Fails}
 use Rattle.amounts.specs.Outcomes.{first}
 use Rattle.rules.specs.declared.State.{State}
 use Rattle.rules.specs.Checks.{char_fault}
@@ -29,5 +28,5 @@ entry-says name st e l = go (first_bad r) (slot_fault e.slot r) refl refl
 
     go : (c : Characters) (o : Outcome) → first_bad r ≡ c → slot_fault e.slot r ≡ o → EntrySays name st e (first (char_fault c) (first o (kept_fault name st r)))
     go (BadAt i) o p q = BadCharacter p
-    go Allowed (Fault n m) p q = OutOfSlot p q
+    go Allowed (Err why) p q = OutOfSlot p q
     go Allowed Pass p q = AsWritten p q (kept-then-stored name st r l p)

@@ -30,7 +30,7 @@ use Rattle.sheet.specs.Filled.{is_tail, with_name, filled, filled_all}
 use Rattle.sheet.specs.Contents as In
 use Rattle.sheet.specs.Contents.{Slot, All, Entered}
 use Rattle.sheet.proofs.FilledRecords.{slot-laid, length-name, length-filled}
-use Rattle.write.specs.declared.Writing.TheVariants.{Written}
+use Rattle.write.specs.Answers.{Written}
 use Rattle.write.specs.Writing.{name_in, writing_of, flow_of}
 use Rattle.write.specs.WhenRefused.{entries_in, NoEntryFault, MayBeWritten}
 use Rattle.write.specs.Effect.{filled_columns, entry_at, Carries, made_columns}

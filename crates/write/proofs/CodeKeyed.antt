@@ -10,14 +10,13 @@ use Rattle.text.proofs.Numerals.{length_digits}
 use Rattle.text.proofs.Puts.{put-after}
 use Rattle.layout.specs.declared.Kind.TheVariants.{Taxpayer}
 use Rattle.layout.specs.Kinds.{kind_in, numbered}
-use Rattle.amounts.specs.declared.Outcome.{Outcome}
-use Rattle.amounts.specs.declared.Outcome.TheVariants.{Fault}
+use Rattle.refusal.specs.Outcomes.{Outcome, Fails}
 use Rattle.amounts.specs.Outcomes.{first}
 use Rattle.taxcode.specs.TaxCodes.{code_right}
 use Rattle.rules.specs.declared.State.{State}
 use Rattle.rules.specs.Stored.{stored_of, wrong}
 use Rattle.rules.specs.Checks.{own_fault}
-use Rattle.judge.specs.Refusal.{refusal}
+use Rattle.refusal.specs.Refusals.{refusal}
 use Rattle.judge.proofs.OwnNumbers.{twenty-six-is-taxpayer, behind-eight}
 use Rattle.judge.proofs.CodeExists.{code-twenty-six}
 use Rattle.rebalance.specs.Rebalance.{put_all, kept_fields, kept_fault}
@@ -36,11 +35,11 @@ unfolding filled with_name with_number numbered put_all
 code-left name e a s = let n = length_digits 7 e.delega in let l = a.sized in rw s (ap (take 16) (put-after 3 (digits_of 7 e.delega) e.bytes (omega arith) 10 (omega arith)))
 
 -- The checks that rebalancing leaves alone have 26 where a record's own have it.
-own-of-kept : (name : List ℕ) (st : State) (r : List ℕ) {p : ℕ} → kept_fault name st r ≡ Fault 26 p → own_fault name st (kind_in r) r ≡ Fault 26 p
+own-of-kept : (name : List ℕ) (st : State) (r : List ℕ) {p : ℕ} → kept_fault name st r ≡ Fails 26 p → own_fault name st (kind_in r) r ≡ Fails 26 p
 unfolding kept_fault
 own-of-kept name st r e = (behind-eight st r (kept_fields (kind_in r)) (own_fault name st (kind_in r) r) (omega arith) e).rest
 
-entry-names-code : (name : List ℕ) (st : State) (e : Entry) {p : ℕ} → Entered e → entry_fault name st e ≡ Fault 26 p → (p ≡ 11) × (e.slot ≡ Taxpayer) × (code_right (take 16 (drop 10 e.bytes)) ≡ false)
+entry-names-code : (name : List ℕ) (st : State) (e : Entry) {p : ℕ} → Entered e → entry_fault name st e ≡ Fails 26 p → (p ≡ 11) × (e.slot ≡ Taxpayer) × (code_right (take 16 (drop 10 e.bytes)) ≡ false)
 entry-names-code name st e a f =
     let r = filled name e in
     let k = above-four name st e a (omega arith) f in

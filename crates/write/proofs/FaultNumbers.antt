@@ -1,4 +1,5 @@
 -- The numbers of the faults of a record to be written.
+use Rattle.std.specs.Prelude.{Err}
 use Prim.Native.Nat.{ℕ}
 use mathlib.Core.Path.{◌≡◌, refl}
 use mathlib.Core.List.{List, [], ◌∷◌}
@@ -6,8 +7,7 @@ use Rattle.text.specs.Characters.{first_bad}
 use Rattle.layout.specs.declared.Kind.{Kind}
 use Rattle.layout.specs.Kinds.{kind_in}
 use Rattle.layout.specs.Fields.{value_of, delega_number}
-use Rattle.amounts.specs.declared.Outcome.{Outcome}
-use Rattle.amounts.specs.declared.Outcome.TheVariants.{Pass, Fault}
+use Rattle.refusal.specs.Outcomes.{Outcome, Pass, Fails}
 use Rattle.amounts.specs.Outcomes.{first}
 use Rattle.amounts.specs.Names.{same_bytes}
 use Rattle.text.specs.Among.{among}
@@ -37,7 +37,7 @@ entry_in ns name st e h = in-first (characters-in ns (first_bad r)) (go (slot_fa
 
     go : (o : Outcome) → In (before ns) o → (o ≡ Pass → In ns (last_checks name st r)) → In (before ns) (first o (kept_fault name st r))
     go Pass i f = kept_in ns name st r (f refl)
-    go (Fault n p) i f = i
+    go (Err why) i f = i
 
 -- So it has one of the numbers named, or 8.
 pub entry-number : (name : List ℕ) (st : State) (e : Entry) → In (3 ∷ 4 ∷ 6 ∷ 7 ∷ 8 ∷ 9 ∷ 14 ∷ 16 ∷ 17 ∷ 26 ∷ []) (entry_fault name st e)

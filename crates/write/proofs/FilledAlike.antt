@@ -14,7 +14,7 @@ use Rattle.layout.specs.declared.Field.{Field}
 use Rattle.layout.specs.declared.Kind.{Kind}
 use Rattle.layout.specs.Kinds.{kind_in, numbered}
 use Rattle.layout.specs.Fields.{delega_number, final_balance, tail_deleghe, tail_sum, tail_records, support_name, bytes_of}
-use Rattle.amounts.specs.declared.Outcome.TheVariants.{Pass}
+use Rattle.refusal.specs.Outcomes.{Pass}
 use Rattle.amounts.specs.Names.{same_bytes}
 use Rattle.rules.specs.declared.State.{State}
 use Rattle.rules.specs.State.{start_state}

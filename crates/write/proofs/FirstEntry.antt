@@ -1,15 +1,15 @@
 -- The faults of records to be written, one by one: they pass together where each passes, and else the first is told.
+use Rattle.std.specs.Prelude.{Err}
 use Prim.Native.Nat.{ℕ, suc, ◌+◌}
 use mathlib.Core.Path.{◌≡◌, refl, ap, ◌∙◌}
 use mathlib.Core.List.{List, [], ◌∷◌, ◌++◌}
 use native.Mathlib.Omega.{arith}
 use lib.ListN.{length}
-use Rattle.amounts.specs.declared.Outcome.{Outcome}
-use Rattle.amounts.specs.declared.Outcome.TheVariants.{Pass, Fault}
+use Rattle.refusal.specs.Outcomes.{Outcome, Pass, Fails}
 use Rattle.rules.specs.declared.State.{State}
 use Rattle.rules.specs.Step.{next}
 use Rattle.judge.specs.Plain.{state_after}
-use Rattle.lenient.specs.declared.Lenient.TheVariants as Kept
+use Rattle.lenient.specs.Answers as Kept
 use Rattle.lenient.specs.Lenient.{or_refused}
 use Rattle.sheet.specs.Sheet.{Entry}
 use Rattle.sheet.specs.Filled.{filled, filled_all}
@@ -25,7 +25,7 @@ each-passes name st (e ∷ es) q = go (entry_fault name st e) refl q (each-passe
     go : (o : Outcome) → entry_fault name st e ≡ o → or_refused o st.seen (entries_fault name (next st (filled name e)) es) ≡ Kept.Passed →
         (entries_fault name (next st (filled name e)) es ≡ Kept.Passed → NoEntryFault name (next st (filled name e)) es) → NoEntryFault name st (e ∷ es)
     go Pass p f g = (p, g f)
-    go (Fault n u) p f g = let z : ◌≡◌ {A = ℕ} 0 1 = cc in absurd (omega arith)
+    go (Err why) p f g = let z : ◌≡◌ {A = ℕ} 0 1 = cc in absurd (omega arith)
 
 -- Where each passes, they pass together.
 pub all_pass : (name : List ℕ) (st : State) (es : List Entry) → NoEntryFault name st es → entries_fault name st es ≡ Kept.Passed
@@ -55,10 +55,10 @@ first-told name st (e ∷ es) {n} {r} {p} q = go (entry_fault name st e) refl q 
     go : (o : Outcome) → entry_fault name st e ≡ o → or_refused o st.seen (entries_fault name (next st (filled name e)) es) ≡ Kept.Refused n r p →
         (entries_fault name (next st (filled name e)) es ≡ Kept.Refused n r p → Told name (next st (filled name e)) es n r p) → Told name st (e ∷ es) n r p
     go Pass h f g = told-on name st e es n r p h (g f)
-    go (Fault m u) h f g = (1, cc, record { before = []; here = e; behind = es; split = refl; counted = refl; passes = tt; fails = cc })
+    go (Err why) h f g = (1, cc, record { before = []; here = e; behind = es; split = refl; counted = refl; passes = tt; fails = cc })
 
 -- Where a record has a fault behind records that pass, it is told.
-pub told-first : (name : List ℕ) (st : State) (before : List Entry) (here : Entry) (behind : List Entry) {n p : ℕ} → NoEntryFault name st before → entry_fault name (state_after st (filled_all name before)) here ≡ Fault n p →
+pub told-first : (name : List ℕ) (st : State) (before : List Entry) (here : Entry) (behind : List Entry) {n p : ℕ} → NoEntryFault name st before → entry_fault name (state_after st (filled_all name before)) here ≡ Fails n p →
     entries_fault name st (before ++ (here ∷ behind)) ≡ Kept.Refused n (st.seen + (length before + 1)) p
 unfolding entries_fault state_after filled_all next
 told-first name st [] here behind h e = rw e

@@ -32,7 +32,7 @@ use Rattle.sheet.specs.Filled.{with_name, filled, filled_all}
 use Rattle.sheet.specs.Contents as In
 use Rattle.sheet.specs.Contents.{Slot, All, Entered, count_in}
 use Rattle.sheet.proofs.FilledRecords.{length-filled}
-use Rattle.write.specs.declared.Writing.TheVariants.{Written}
+use Rattle.write.specs.Answers.{Written}
 use Rattle.write.specs.Writing.{name_in, writing_of, flow_of}
 use Rattle.write.specs.WhenRefused.{entries_in, NoEntryFault, MayBeWritten}
 use Rattle.write.specs.Effect.{keyed_over, keyed_in, keyed_all, keyed_lines}

@@ -1,4 +1,5 @@
 -- The lenient judgement of the records put together gives the first fault of the records to be written: the first that is not of its slot's kind is all that has to be known of the slots.
+use Rattle.std.specs.Prelude.{Err}
 use Prim.Native.Nat.{ℕ, ◌+◌, ◌≤◌, ◌<◌}
 use mathlib.Core.Path.{◌≡◌, refl, sym, ap, ◌∙◌}
 use mathlib.Core.Bool.{Bool, true, false, cond}
@@ -7,8 +8,7 @@ use native.Mathlib.Omega.{arith}
 use borrow.Author.Tests.{eq-eqb, ne_eqb}
 use lib.ListN.{length, take, drop}
 use Rattle.text.specs.Characters.{first_bad}
-use Rattle.amounts.specs.declared.Outcome.{Outcome}
-use Rattle.amounts.specs.declared.Outcome.TheVariants.{Pass, Fault}
+use Rattle.refusal.specs.Outcomes.{Outcome, Pass, Fails}
 use Rattle.amounts.specs.Names.{same_bytes}
 use Rattle.amounts.specs.Outcomes.{first}
 use Rattle.layout.specs.declared.Kind.{Kind}
@@ -17,8 +17,8 @@ use Rattle.rules.specs.Checks.{char_fault}
 use Rattle.rules.specs.Step.{next}
 use Rattle.judge.specs.Plain.{state_after}
 use Rattle.rebalance.specs.Rebalance.{kept_fault}
-use Rattle.lenient.specs.declared.Lenient.{Lenient}
-use Rattle.lenient.specs.declared.Lenient.TheVariants as Kept
+use Rattle.lenient.specs.Answers.{Lenient}
+use Rattle.lenient.specs.Answers as Kept
 use Rattle.lenient.specs.Lenient.{misfit_fault, lenient_fault, or_refused, ended, lenient_from}
 use Rattle.sheet.specs.declared.Misfit.{Misfit}
 use Rattle.sheet.specs.Slots.{type_text, subtype_text, slot_fault}
@@ -35,7 +35,7 @@ misfit-stays name n (e ∷ es) m z = ap (misfit_from name (n + 1) es) (stays (sl
   where
     stays : (o : Outcome) → or_misfit m (n + 1) o ≡ m
     stays Pass = refl
-    stays (Fault q p) = rw (ne_eqb m.at 0 z)
+    stays (Err why) = rw (ne_eqb m.at 0 z)
 
 -- The first misfit of records behind n others is none of those.
 misfit-later : (name : List ℕ) (n : ℕ) (es : List Entry) (m : Misfit) → m.at ≡ 0 → (k : ℕ) → 0 < k → k ≤ n → (misfit_from name n es m).at ≡ k → ⊥
@@ -45,18 +45,18 @@ misfit-later name n (e ∷ es) m z k p l h = go (slot_fault e.slot (filled name 
   where
     go : (o : Outcome) → ((misfit_from name (n + 1) es m).at ≡ k → ⊥) → (misfit_from name (n + 1) es (or_misfit m (n + 1) o)).at ≡ k → ⊥
     go Pass rest i = rest i
-    go (Fault q r) rest i =
+    go (Fails q r) rest i =
         let x : Misfit = record { at = n + 1; position = r } in
-        let j : misfit_from name (n + 1) es (or_misfit m (n + 1) (Fault q r)) ≡ x = rw (eq-eqb m.at 0 z) (misfit-stays name (n + 1) es x (λ t. let u : n + 1 ≡ 0 = t in omega arith)) in
+        let j : misfit_from name (n + 1) es (or_misfit m (n + 1) (Fails q r)) ≡ x = rw (eq-eqb m.at 0 z) (misfit-stays name (n + 1) es x (λ t. let u : n + 1 ≡ 0 = t in omega arith)) in
         let v : n + 1 ≡ k = sym (ap (λ (y : Misfit). y.at) j) ∙ i in
         omega arith
 
 -- A slot's fault is a 4.
-slot-four : (k : Kind) (r : List ℕ) (n p : ℕ) → slot_fault k r ≡ Fault n p → n ≡ 4
+slot-four : (k : Kind) (r : List ℕ) (n p : ℕ) → slot_fault k r ≡ Fails n p → n ≡ 4
 unfolding slot_fault
 slot-four k r n p e = go (same_bytes (take 2 (drop 1 r)) (type_text k)) (same_bytes (take (length (subtype_text k)) (drop 10 r)) (subtype_text k)) e
   where
-    go : (t u : Bool) → cond t (cond u Pass (Fault 4 11)) (Fault 4 2) ≡ Fault n p → n ≡ 4
+    go : (t u : Bool) → cond t (cond u Pass (Fails 4 11)) (Fails 4 2) ≡ Fails n p → n ≡ 4
     go true true h = cc
     go true false h = cc
     go false u h = cc
@@ -64,16 +64,16 @@ slot-four k r n p e = go (same_bytes (take 2 (drop 1 r)) (type_text k)) (same_by
 -- What comes behind records, where they pass.
 abbrev pub behind_faults : Lenient → Lenient → Lenient
 behind_faults Kept.Passed x = x
-behind_faults (Kept.Refused n r p) x = Kept.Refused n r p
+behind_faults (Err why) x = Err why
 
 behind-or : (o : Outcome) (n : ℕ) (x y : Lenient) → behind_faults (or_refused o n x) y ≡ or_refused o n (behind_faults x y)
 behind-or Pass n x y = refl
-behind-or (Fault e p) n x y = refl
+behind-or (Err why) n x y = refl
 
 -- A record that is not of its slot's kind ends the judgement.
-misfit-ends : (c : Outcome) (q p n : ℕ) (k : Outcome) (x y : Lenient) → or_refused (first c (first (Fault q p) k)) n x ≡ or_refused (first c (first (Fault q p) k)) n y
+misfit-ends : (c : Outcome) (q p n : ℕ) (k : Outcome) (x y : Lenient) → or_refused (first c (first (Fails q p) k)) n x ≡ or_refused (first c (first (Fails q p) k)) n y
 misfit-ends Pass q p n k x y = refl
-misfit-ends (Fault e r) q p n k x y = refl
+misfit-ends (Err why) q p n k x y = refl
 
 module _ (name : List ℕ) (st : State) (e : Entry) where
   -- A record of its slot's kind is judged alike where it is not told as the misfit,
@@ -82,7 +82,7 @@ module _ (name : List ℕ) (st : State) (e : Entry) where
   alike-fitting m p i h = rw (i, ne_eqb m (st.seen + 1) h)
 
   -- and one of another kind where it is.
-  alike-misfit : (p : ℕ) → slot_fault e.slot (filled name e) ≡ Fault 4 p → lenient_fault name (st.seen + 1) p st (filled name e) ≡ entry_fault name st e
+  alike-misfit : (p : ℕ) → slot_fault e.slot (filled name e) ≡ Fails 4 p → lenient_fault name (st.seen + 1) p st (filled name e) ≡ entry_fault name st e
   unfolding lenient_fault entry_fault misfit_fault
   alike-misfit p i = rw (i, eq-eqb (st.seen + 1) (st.seen + 1) refl)
 
@@ -93,10 +93,10 @@ module _ (name : List ℕ) (st : State) (e : Entry) where
       let r = misfit_from name (st.seen + 1) es m in
       ap (λ (o : Outcome). or_refused o st.seen x) (alike-fitting r.at r.position i (misfit-later name (st.seen + 1) es m z (st.seen + 1) (omega arith) (omega arith)))
       ∙ (ap (or_refused (entry_fault name st e) st.seen) (h refl) ∙ sym (behind-or (entry_fault name st e) st.seen y end))
-  turn es m x y end (Fault q p) z i h =
+  turn es m x y end (Fails q p) z i h =
       let f : q ≡ 4 = slot-four e.slot (filled name e) q p i in
       let r : Misfit = record { at = st.seen + 1; position = p } in
-      let j : misfit_from name (st.seen + 1) es (or_misfit m (st.seen + 1) (Fault q p)) ≡ r = rw (eq-eqb m.at 0 z) (misfit-stays name (st.seen + 1) es r (λ t. let u : st.seen + 1 ≡ 0 = t in omega arith)) in
+      let j : misfit_from name (st.seen + 1) es (or_misfit m (st.seen + 1) (Fails q p)) ≡ r = rw (eq-eqb m.at 0 z) (misfit-stays name (st.seen + 1) es r (λ t. let u : st.seen + 1 ≡ 0 = t in omega arith)) in
       ap (λ (w : Misfit). or_refused (lenient_fault name w.at w.position st (filled name e)) st.seen x) j
       ∙ (ap (λ (o : Outcome). or_refused o st.seen x) (alike-misfit p (rw f at i))
       ∙ (rw i (misfit-ends (char_fault (first_bad (filled name e))) q p st.seen (kept_fault name st (filled name e)) x (behind_faults y end)) ∙ sym (behind-or (entry_fault name st e) st.seen y end)))

@@ -7,7 +7,7 @@ use lib.ListN.{length}
 use Rattle.text.specs.Characters.{first_bad}
 use Rattle.layout.specs.declared.Kind.TheVariants.{Tail}
 use Rattle.layout.specs.Kinds.{kind_in}
-use Rattle.amounts.specs.declared.Outcome.TheVariants.{Pass}
+use Rattle.refusal.specs.Outcomes.{Pass}
 use Rattle.amounts.proofs.Outcomes.{first-pass}
 use Rattle.order.specs.Stages.{after_tail}
 use Rattle.rules.specs.declared.State.{State}

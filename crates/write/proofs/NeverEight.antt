@@ -13,14 +13,15 @@ use Rattle.layout.specs.declared.Kind.{Kind}
 use Rattle.layout.specs.declared.Kind.TheVariants.{Head, Taxpayer, Domicile, Line, Balance, Payment, Receipt, Addressee, Tail, Unknown}
 use Rattle.layout.specs.Kinds.{kind_in, numbered}
 use Rattle.layout.specs.Fields.{delega_number, support_name, bytes_of, value_of}
-use Rattle.amounts.specs.declared.Outcome.TheVariants.{Pass}
+use Rattle.refusal.specs.Outcomes.{Pass}
 use Rattle.text.specs.Among.{among}
 use Rattle.rules.specs.declared.State.{State}
 use Rattle.rules.specs.State.{start_state}
 use Rattle.rules.specs.Stored.{stored_of}
 use Rattle.rules.specs.Checks.{number_fault, tail_name}
 use Rattle.rules.specs.Step.{next_deleghe, next}
-use Rattle.judge.specs.Refusal.{Refusal, refusal}
+use Rattle.refusal.specs.declared.Refusal.{Refusal}
+use Rattle.refusal.specs.Refusals.{refusal}
 use Rattle.judge.specs.Plain.{state_after}
 use Rattle.rebalance.specs.Rebalance.{clear}
 use Rattle.rebalance.proofs.Written.{put_all-clear}
@@ -34,7 +35,7 @@ use Rattle.sheet.proofs.SlotPassed.{slot-kind}
 use Rattle.amounts.proofs.Spelling.{same-itself}
 use Rattle.rebalance.proofs.Numbered.{number-right, length-number, number-here}
 use Rattle.sheet.proofs.FilledRecords.{slot-storing, slot-laid, length-name}
-use Rattle.write.specs.declared.Writing.TheVariants.{Refused}
+use Rattle.write.specs.Answers.{Refused}
 use Rattle.write.specs.Writing.{name_in, entry_fault, writing_of}
 use Rattle.write.specs.WhenRefused.{entries_in, NoEntryFault, FirstEntryFault, record_numbers, sheet_numbers, Tried, WhyRefused, NotASheet, ShortRoom, ManyRecords, FaultyRecord, NoFit}
 use Rattle.judge.proofs.OwnNumbers.{In, none, has, in-fault, in-more}

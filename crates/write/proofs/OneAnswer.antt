@@ -2,7 +2,7 @@
 use Prim.Native.Nat.{ℕ}
 use mathlib.Core.Path.{◌≡◌, sym, ◌∙◌}
 use mathlib.Core.List.{List}
-use Rattle.write.specs.declared.Writing.{Writing}
+use Rattle.write.specs.Answers.{Writing}
 use Rattle.write.specs.Writing.{writing_of, room_after}
 
 -- "any two answers allowed by it are equal", and so is "the state of each lent byte afterwards"

@@ -11,7 +11,7 @@ use Rattle.text.specs.Numbers.{digits_of}
 use Rattle.layout.specs.declared.Kind.TheVariants.{Head}
 use Rattle.layout.specs.Kinds.{kind_in, numbered}
 use Rattle.layout.specs.Fields.{in_columns}
-use Rattle.amounts.specs.declared.Outcome.TheVariants.{Pass}
+use Rattle.refusal.specs.Outcomes.{Pass}
 use Rattle.rules.specs.declared.State.{State}
 use Rattle.rules.specs.State.{start_state}
 use Rattle.rules.specs.Stored.{stored_of}
@@ -28,7 +28,7 @@ use Rattle.sheet.specs.Sheet.{Entry, entry}
 use Rattle.sheet.specs.Filled.{filled, filled_all}
 use Rattle.sheet.specs.Contents.{All, Entered, IsSheet, Numbering, count_in}
 use Rattle.sheet.proofs.SlotExactly.{slot-exactly}
-use Rattle.write.specs.declared.Writing.TheVariants.{Written}
+use Rattle.write.specs.Answers.{Written}
 use Rattle.write.specs.Writing.{name_in, entry_fault, writing_of, flow_of}
 use Rattle.write.specs.WhenRefused.{entries_in, NoEntryFault, MayBeWritten}
 use Rattle.write.specs.Effect.{filled_columns, entry_at, Carries, Demanded}

@@ -9,12 +9,13 @@ use Rattle.text.specs.Characters.{first_bad}
 use Rattle.layout.specs.declared.Kind.{Kind}
 use Rattle.layout.specs.declared.Kind.TheVariants.{Unknown}
 use Rattle.layout.specs.Kinds.{kind_in}
-use Rattle.amounts.specs.declared.Outcome.TheVariants.{Fault}
+use Rattle.refusal.specs.Outcomes.{Fails}
 use Rattle.amounts.specs.Names.{same_bytes}
 use Rattle.rules.specs.declared.State.{State}
 use Rattle.rules.specs.State.{start_state}
 use Rattle.rules.specs.Checks.{char_fault}
-use Rattle.judge.specs.Refusal.{Refusal, refusal}
+use Rattle.refusal.specs.declared.Refusal.{Refusal}
+use Rattle.refusal.specs.Refusals.{refusal}
 use Rattle.judge.specs.Plain.{state_after}
 use Rattle.judge.proofs.ChecksInOrder.{Only, passed, failed, only-cond, char-only, never, other-fault}
 use Rattle.rebalance.specs.Rebalance.{kept_fault}
@@ -36,7 +37,7 @@ unfolding slot_fault
 slot-only k r = only-cond (same_bytes _ (type_text k)) (only-cond (same_bytes _ (subtype_text k)) passed failed) failed
 
 -- A fault above 4 of a record to be written is that of the checks that rebalancing leaves alone, and the record is of its slot's kind.
-pub above-four : (name : List ℕ) (st : State) (e : Entry) {n p : ℕ} → Entered e → 4 < n → entry_fault name st e ≡ Fault n p → (kind_in (filled name e) ≡ e.slot) × (kept_fault name st (filled name e) ≡ Fault n p)
+pub above-four : (name : List ℕ) (st : State) (e : Entry) {n p : ℕ} → Entered e → 4 < n → entry_fault name st e ≡ Fails n p → (kind_in (filled name e) ≡ e.slot) × (kept_fault name st (filled name e) ≡ Fails n p)
 unfolding entry_fault
 above-four name st e a h f =
     let r = filled name e in
@@ -49,7 +50,7 @@ pub record Fails (sheet : List ℕ) (n k p : ℕ) : Type 0 where
   pub a-sheet : IsSheet sheet
   pub entered : Entered (entry_at (entries_in sheet) (k - 1))
   pub after : State
-  pub fails : entry_fault (name_in sheet) after (entry_at (entries_in sheet) (k - 1)) ≡ Fault n p
+  pub fails : entry_fault (name_in sheet) after (entry_at (entries_in sheet) (k - 1)) ≡ Fails n p
 
 -- A number that is none of the whole sheet's.
 abbrev OfRecord : ℕ → Type 0

@@ -8,21 +8,21 @@ use native.Mathlib.Omega.{arith}
 use borrow.Author.Tests.{ltb-true, ltb-false, lt-ltb, le-ltb}
 use lib.Dec.{ltb}
 use lib.ListN.{length}
-use Rattle.amounts.specs.declared.Outcome.TheVariants.{Fault}
+use Rattle.refusal.specs.Outcomes.{Fails}
 use Rattle.text.specs.Among.{among}
 use Rattle.rules.specs.declared.State.{State}
 use Rattle.rules.specs.State.{start_state}
-use Rattle.judge.specs.Refusal.{Refusal, refusal, no_refusal}
+use Rattle.refusal.specs.declared.Refusal.{Refusal}
+use Rattle.refusal.specs.Refusals.{refusal, no_refusal}
 use Rattle.rebalance.specs.Rebalance.{all_fit}
-use Rattle.lenient.specs.declared.Lenient.{Lenient}
-use Rattle.lenient.specs.declared.Lenient.TheVariants as Kept
+use Rattle.lenient.specs.Answers.{Lenient}
+use Rattle.lenient.specs.Answers as Kept
 use Rattle.sheet.specs.Sheet.{Entry, Reading, NoSheet, Read, sheet_of}
 use Rattle.sheet.specs.Filled.{filled_all}
 use Rattle.sheet.specs.Contents.{IsSheet}
 use Rattle.sheet.proofs.SaidBySheet.{sheet-said}
 use Rattle.sheet.proofs.ReadsContents.{contents-read, no-sheet-exactly}
-use Rattle.write.specs.declared.Writing.{Writing}
-use Rattle.write.specs.declared.Writing.TheVariants.{Written, Refused}
+use Rattle.write.specs.Answers.{Writing, Written, Refused}
 use Rattle.write.specs.Writing.{refusal_written, name_in, entry_fault, entries_fault, after_faults, tried_in, answer_to, writing_of, entries_read, room_after}
 use Rattle.write.specs.WhenRefused.{entries_in, FirstEntryFault, Tried, WhyRefused, NotASheet, ShortRoom, ManyRecords, FaultyRecord, NoFit, MayBeWritten}
 use Rattle.write.proofs.FirstEntry.{each-passes, all_pass, first-told, told-first}
@@ -30,7 +30,7 @@ use Rattle.judge.proofs.OwnNumbers.{in-fault}
 use Rattle.write.proofs.FaultNumbers.{entry-number}
 
 -- No fault of a record has the number 0.
-fault-above : (name : List ℕ) (st : State) (e : Entry) {n p : ℕ} → entry_fault name st e ≡ Fault n p → n ≡ 0 → ⊥
+fault-above : (name : List ℕ) (st : State) (e : Entry) {n p : ℕ} → entry_fault name st e ≡ Fails n p → n ≡ 0 → ⊥
 unfolding among
 fault-above name st e f z = let h = in-fault (rw f at (entry-number name st e)) in false≢true (rw z at h)
 

@@ -12,11 +12,11 @@ use Rattle.judge.specs.Flow.{records_of, head_name_of}
 use Rattle.judge.specs.Plain.{Whole}
 use Rattle.rebalance.specs.Rebalance.{rebalanced, all_fit, flat}
 use Rattle.rebalance.proofs.Judged.{length-mended}
-use Rattle.lenient.specs.declared.Lenient.{Lenient}
-use Rattle.lenient.specs.declared.Lenient.TheVariants as Kept
+use Rattle.lenient.specs.Answers.{Lenient}
+use Rattle.lenient.specs.Answers as Kept
 use Rattle.lenient.specs.Lenient.{lenient_from}
 use Rattle.sheet.specs.declared.Misfit.{Misfit}
-use Rattle.write.specs.declared.Writing.TheVariants.{Written, Refused}
+use Rattle.write.specs.Answers.{Written, Refused}
 use Rattle.write.specs.Settling.{settled_of}
 
 -- A part put at the front of a room.

@@ -1,4 +1,5 @@
 -- What the walk over a sheet tells: that it is none, how many records are to be written, and the flow that they make.
+use Rattle.std.specs.Prelude.{Err}
 use Prim.Native.Nat.{ℕ, ◌+◌, ◌*◌, ◌/◌, ◌≤◌, ◌<◌}
 use mathlib.Core.Path.{◌≡◌, refl, sym, ap, subst, ◌∙◌}
 use mathlib.Core.List.{List}
@@ -11,13 +12,13 @@ use Rattle.judge.specs.Flow.{records_of, head_name_of}
 use Rattle.judge.specs.Plain.{Whole, state_after}
 use Rattle.rebalance.specs.Rebalance.{rebalanced, flat}
 use Rattle.rebalance.proofs.Flat.{length-flat, records-flat}
-use Rattle.lenient.specs.declared.Lenient.{Lenient}
-use Rattle.lenient.specs.declared.Lenient.TheVariants as Kept
+use Rattle.lenient.specs.Answers.{Lenient}
+use Rattle.lenient.specs.Answers as Kept
 use Rattle.lenient.specs.Lenient.{ended, lenient_from}
 use Rattle.sheet.specs.declared.Misfit.{Misfit}
 use Rattle.sheet.specs.declared.Spot.{Spot}
-use Rattle.sheet.specs.declared.Walked.{Walked}
-use Rattle.sheet.specs.declared.Walked.TheVariants as Way
+use Rattle.sheet.specs.Answers.{Walked}
+use Rattle.sheet.specs.Answers as Way
 use Rattle.sheet.specs.Sheet.{Entry, entry, Reading, NoSheet, Read, sheet_of}
 use Rattle.sheet.specs.Filled.{filled_all}
 use Rattle.sheet.specs.Walk.{misfit_from, start_spot, Reaches, Follows}
@@ -25,8 +26,7 @@ use Rattle.layout.specs.declared.Kind.TheVariants.{Tail}
 use Rattle.sheet.specs.Contents.{IsSheet, All, Entered}
 use Rattle.sheet.proofs.SaidBySheet.{sheet-said}
 use Rattle.sheet.proofs.EntriesRead.{Entries}
-use Rattle.write.specs.declared.Writing.{Writing}
-use Rattle.write.specs.declared.Writing.TheVariants.{Refused}
+use Rattle.write.specs.Answers.{Writing, Refused}
 use Rattle.write.specs.Writing.{name_in, entries_fault, tried_in, answer_to, writing_of, entries_read, flow_of, room_with, room_after}
 use Rattle.write.specs.Settling.{settled_of}
 use Rattle.write.specs.WhenRefused.{entries_in, NoEntryFault}
@@ -145,7 +145,7 @@ module _ (sheet room f g : List ℕ) (b : Spot) (t : Told sheet f g b) where
         where
           go : (v : Lenient) → entries_fault name start_state es ≡ v → behind_faults v (ended (state_after start_state rs)) ≡ v
           go Kept.Passed p = rw (eq-eqb _ _ (last-tail sheet name es (entries-in sheet a-sheet) (each-passes name start_state es p)))
-          go (Kept.Refused n r q) p = refl
+          go (Err why) p = refl
 
       -- so that the lenient judgement gives their first fault.
       judged-leniently : (m : Misfit) → m ≡ misfit_from name 0 es start_spot.misfit → lenient_from name m.at m.position start_state rs ≡ entries_fault name start_state es

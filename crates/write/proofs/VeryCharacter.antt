@@ -14,11 +14,11 @@ use Rattle.layout.specs.declared.Kind.{Kind}
 use Rattle.layout.specs.Kinds.{kind_in, numbered}
 use Rattle.layout.specs.Fields.{delega_number, fields_of, in_columns}
 use Rattle.layout.proofs.InOrder.{InOrder, in-first, others-in, none_before, fields-in-order}
-use Rattle.amounts.specs.declared.Outcome.TheVariants.{Fault}
+use Rattle.refusal.specs.Outcomes.{Fails}
 use Rattle.rules.specs.declared.State.{State}
 use Rattle.rules.specs.NonDigits.{FirstNonDigit}
 use Rattle.rules.proofs.NonDigits.{field-digits}
-use Rattle.judge.specs.Refusal.{refusal}
+use Rattle.refusal.specs.Refusals.{refusal}
 use Rattle.judge.specs.Plain.{Debit, Credit, column_of}
 use Rattle.rebalance.specs.Rebalance.{kept_fields}
 use Rattle.rebalance.proofs.Outside.{off-all}
@@ -76,7 +76,7 @@ module _ (r q : List ℕ) {i : ℕ} where
   keyed-first In.tail o d s h = none-keyed h
 
 -- A name of 20 characters, and a record to be written that is refused with 7.
-module _ (name : List ℕ) (n : length name ≡ 20) (st : State) (e : Entry) (a : Entered e) {p : ℕ} (f : entry_fault name st e ≡ Fault 7 p) where
+module _ (name : List ℕ) (n : length name ≡ 20) (st : State) (e : Entry) (a : Entered e) {p : ℕ} (f : entry_fault name st e ≡ Fails 7 p) where
   abbrev r : List ℕ
   r = filled name e
 

@@ -9,7 +9,7 @@ use Rattle.text.proofs.Bytes.{part_length}
 use Rattle.layout.specs.declared.Kind.TheVariants.{Head, Tail}
 use Rattle.layout.specs.Kinds.{numbered}
 use Rattle.rules.specs.State.{start_state}
-use Rattle.judge.specs.declared.Verdict.TheVariants.{Accepted}
+use Rattle.judge.specs.Refusal.{Accepted}
 use Rattle.judge.specs.declared.Judgement.{Judgement}
 use Rattle.judge.specs.Flow.{accepted_with, records_of, head_name_of, judged}
 use Rattle.judge.specs.Plain.{Whole, state_after}
@@ -25,8 +25,7 @@ use Rattle.sheet.proofs.FilledRecords.{sized-filled}
 use Rattle.sheet.proofs.ReadsContents.{contents-read}
 use Rattle.sheet.proofs.EntriesRead.{Entries, entries-read}
 use Rattle.sheet.proofs.SheetLength.{short-sheet}
-use Rattle.write.specs.declared.Writing.{Writing}
-use Rattle.write.specs.declared.Writing.TheVariants.{Written}
+use Rattle.write.specs.Answers.{Writing, Written}
 use Rattle.write.specs.Writing.{name_in, writing_of, entries_read, flow_of, room_after}
 use Rattle.write.specs.WhenRefused.{entries_in, Tried, MayBeWritten}
 use Rattle.write.proofs.Refusals.{written-exactly}

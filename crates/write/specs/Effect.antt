@@ -5,7 +5,7 @@ use Rattle.layout.specs.declared.Kind.{Kind}
 use Rattle.layout.specs.declared.Kind.TheVariants.{Head, Taxpayer, Domicile, Line, Balance, Payment, Receipt, Addressee, Tail, Unknown}
 use Rattle.layout.specs.Kinds.{of_line, kind_in}
 use Rattle.layout.specs.Fields.{columns, creation_date, value_of, in_columns}
-use Rattle.judge.specs.declared.Verdict.TheVariants.{Accepted}
+use Rattle.judge.specs.Refusal.{Accepted}
 use Rattle.judge.specs.Flow.{records_of, judged}
 use Rattle.judge.specs.Plain.{Side, Debit, Credit, column_of}
 use Rattle.rebalance.specs.Places.{balance_columns}

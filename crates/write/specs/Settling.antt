@@ -5,8 +5,7 @@ use Rattle.judge.specs.Flow.{records_of, head_name_of}
 use Rattle.rebalance.specs.Rebalance.{all_fit}
 use Rattle.lenient.specs.Lenient.{lenient_from}
 use Rattle.sheet.specs.declared.Misfit.{Misfit}
-use Rattle.write.specs.declared.Writing.{Writing}
-use Rattle.write.specs.declared.Writing.TheVariants.{Written, Refused}
+use Rattle.write.specs.Answers.{Writing, Written, Refused}
 use Rattle.write.specs.Writing.{after_faults}
 
 -- the records' faults, with the first record that is not of its slot's kind; then 23

@@ -1,15 +1,15 @@
 -- For theorems. When a sheet is refused, with which number, record and position, and when its flow is written.
 use Rattle.std.specs.Prelude.{ℕ, ◌+◌, ◌*◌, ◌≤◌, ◌<◌, ◌≡◌, true, false, List, [], ◌∷◌, ◌++◌, length}
-use Rattle.text.specs.declared.Characters.TheVariants.{Allowed, BadAt}
+use Rattle.text.specs.Answers.{Allowed, BadAt}
 use Rattle.text.specs.Characters.{first_bad}
-use Rattle.amounts.specs.declared.Outcome.{Outcome}
-use Rattle.amounts.specs.declared.Outcome.TheVariants.{Pass, Fault}
+use Rattle.refusal.specs.Outcomes.{Outcome, Pass, Fails}
 use Rattle.amounts.specs.Outcomes.{first}
 use Rattle.rules.specs.declared.State.{State}
 use Rattle.rules.specs.State.{start_state}
 use Rattle.rules.specs.Checks.{fault}
 use Rattle.rules.specs.Step.{next}
-use Rattle.judge.specs.Refusal.{Refusal, refusal}
+use Rattle.refusal.specs.declared.Refusal.{Refusal}
+use Rattle.refusal.specs.Refusals.{refusal}
 use Rattle.judge.specs.Plain.{state_after}
 use Rattle.layout.specs.Kinds.{kind_in}
 use Rattle.rules.specs.Stored.{stored_of, wrong}
@@ -27,8 +27,8 @@ entries_in sheet = entries_read (sheet_of sheet)
 -- "01's first fault, in the records to be written, with every filled field taken as right and 4 for a record not of its slot's kind": what is said of one record, after a state. Behind 3 and that 4 it is what the judge says of the
 -- record as it will be written, but for what it says of its stored fields, which are then wrong only where a value does not fit.
 pub data EntrySays (name : List ℕ) (st : State) (e : Entry) : Outcome → Type 0 where
-  BadCharacter : {i : ℕ} → first_bad (filled name e) ≡ BadAt i → EntrySays name st e (Fault 3 (i + 1))
-  OutOfSlot : {n p : ℕ} → first_bad (filled name e) ≡ Allowed → slot_fault e.slot (filled name e) ≡ Fault n p → EntrySays name st e (Fault n p)
+  BadCharacter : {i : ℕ} → first_bad (filled name e) ≡ BadAt i → EntrySays name st e (Fails 3 (i + 1))
+  OutOfSlot : {n p : ℕ} → first_bad (filled name e) ≡ Allowed → slot_fault e.slot (filled name e) ≡ Fails n p → EntrySays name st e (Fails n p)
   AsWritten : {o : Outcome} → first_bad (filled name e) ≡ Allowed → slot_fault e.slot (filled name e) ≡ Pass →
       fault name st (emit st (filled name e)) ≡ first o (wrong (stored_of st (kind_in (filled name e))) (emit st (filled name e))) → EntrySays name st e o
 
@@ -45,7 +45,7 @@ pub record FirstEntryFault (name : List ℕ) (st : State) (es : List Entry) (n k
   pub split : es ≡ before ++ (here ∷ behind)
   pub counted : k ≡ length before + 1
   pub passes : NoEntryFault name st before
-  pub fails : entry_fault name (state_after st (filled_all name before)) here ≡ Fault n p
+  pub fails : entry_fault name (state_after st (filled_all name before)) here ≡ Fails n p
 
 -- The numbers that a record to be written can be refused with.
 abbrev pub record_numbers : List ℕ

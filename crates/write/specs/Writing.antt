@@ -1,28 +1,28 @@
 -- Believed. The flow written from a working sheet: the records with what is filled, rebalanced; the refusals in their order; the bytes of the room afterwards.
-use Rattle.std.specs.Prelude.{ℕ, ◌*◌, cond, List, [], ◌∷◌, ◌++◌, ltb, length, drop}
+use Rattle.std.specs.Prelude.{ℕ, ◌*◌, cond, List, [], ◌∷◌, ◌++◌, ltb, length, drop, Err}
 use Rattle.text.specs.Characters.{first_bad}
 use Rattle.layout.specs.Fields.{bytes_of, support_name}
-use Rattle.amounts.specs.declared.Outcome.{Outcome}
+use Rattle.refusal.specs.Outcomes.{Outcome}
 use Rattle.amounts.specs.Outcomes.{first}
 use Rattle.rules.specs.declared.State.{State}
 use Rattle.rules.specs.State.{start_state}
 use Rattle.rules.specs.Checks.{char_fault}
 use Rattle.rules.specs.Step.{next}
-use Rattle.judge.specs.Refusal.{Refusal, refusal, no_refusal}
+use Rattle.refusal.specs.declared.Refusal.{Refusal}
+use Rattle.refusal.specs.Refusals.{refusal, no_refusal}
 use Rattle.rebalance.specs.Rebalance.{rebalanced, all_fit, flat, kept_fault}
-use Rattle.lenient.specs.declared.Lenient.{Lenient}
-use Rattle.lenient.specs.declared.Lenient.TheVariants as Kept
+use Rattle.lenient.specs.Answers.{Lenient}
+use Rattle.lenient.specs.Answers as Kept
 use Rattle.lenient.specs.Lenient.{or_refused}
 use Rattle.sheet.specs.Slots.{slot_fault}
 use Rattle.sheet.specs.Sheet.{Entry, Reading, NoSheet, Read, sheet_of}
 use Rattle.sheet.specs.Filled.{filled, filled_all}
-use Rattle.write.specs.declared.Writing.{Writing}
-use Rattle.write.specs.declared.Writing.TheVariants.{Written, Refused}
+use Rattle.write.specs.Answers.{Writing, Written, Refused}
 
 -- the refusal of an answer; a flow that is written has none
 abbrev pub refusal_written : Writing → Refusal
 refusal_written (Written n) = no_refusal
-refusal_written (Refused n r p) = refusal n r p
+refusal_written (Err why) = refusal why.number why.«record» why.position
 
 -- the name in the head, with which a sheet begins
 abbrev pub name_in : List ℕ → List ℕ
@@ -42,7 +42,7 @@ entries_fault name st (e ∷ es) = or_refused (entry_fault name st e) st.seen (e
 -- a fault of a record, else what comes behind the records
 abbrev pub after_faults : Lenient → Writing → Writing
 after_faults Kept.Passed w = w
-after_faults (Kept.Refused n r p) w = Refused n r p
+after_faults (Err why) w = Refused why.number why.«record» why.position
 
 -- "25 when the lent room is too short for the flow"; 1, more than 546 records; "then 01's first fault ..; then 23"; else "its length is answered"
 unfoldable pub tried_in : ℕ → List ℕ → List Entry → Writing
@@ -72,7 +72,7 @@ flow_of sheet = flat (rebalanced start_state (filled_all (name_in sheet) (entrie
 -- the room afterwards: the flow, and behind it what was there. "Every refusal leaves lent memory as it came"
 abbrev pub room_with : Writing → List ℕ → List ℕ → List ℕ
 room_with (Written n) flow room = flow ++ drop n room
-room_with (Refused n r p) flow room = room
+room_with (Err why) flow room = room
 
 -- the room after the writing of a sheet's flow
 unfoldable pub room_after : List ℕ → List ℕ → List ℕ

@@ -1,7 +1,7 @@
 -- `correct::replace` meets its contract: where a delega turns negative or a value does not fit, putting the old bytes back undoes the writing.
 -- After `outcome`: the function's entry, the flow as it came and with the new amounts, and what is answered.
 use Rattle.rebalance.specs.Rebalance.{refreshed}
-use Rattle.correct.specs.declared.Correction.{Correction}
+use Rattle.correct.specs.Answers.{Correction}
 use Rattle.correct.specs.Correction.{bytes_after, weighed}
 use Rattle.correct.specs.Writing.{amounts_put}
 use Rattle.correct.proofs.Undone.{restored, whole-amounts, weighed-by, made-fits}

@@ -4,7 +4,7 @@ use Rattle.delega.proofs.Asked.{delega-of-refused, delega-zero, delega-above, de
 use Rattle.judge.proofs.Accepted.{accepted-means-no-fault}
 use Rattle.judge.specs.Flow.{judged}
 use Rattle.judge.specs.declared.Judgement.{Judgement}
-use Rattle.judge.specs.declared.Verdict.TheVariants.{Accepted}
+use Rattle.judge.specs.Refusal.{Accepted}
 use mathlib.Core.List.{List}
 use Prim.Native.Nat.{ℕ}
 use native.Mathlib.Omega.{arith}

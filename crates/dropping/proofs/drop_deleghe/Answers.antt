@@ -2,7 +2,7 @@
 use mathlib.Core.Path.{◌≡◌, sym, ap, ◌∙◌}
 use Rattle.judge.specs.Flow.{judged}
 use Rattle.judge.specs.declared.Judgement.{Judgement}
-use Rattle.judge.specs.declared.Verdict.TheVariants.{Accepted}
+use Rattle.judge.specs.Refusal.{Accepted}
 use Rattle.dropping.specs.Dropping.{weighed}
 use Rattle.dropping.proofs.Answering.{answer-refused, answer-accepted}
 use Rattle.dropping.proofs.drop_deleghe.Goals as goal

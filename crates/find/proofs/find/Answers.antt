@@ -8,7 +8,7 @@ use Rattle.find.specs.Line.{line_from, or_absent, found_in}
 use Rattle.judge.proofs.Accepted.{accepted-means-no-fault}
 use Rattle.judge.specs.Flow.{judged}
 use Rattle.judge.specs.declared.Judgement.{Judgement}
-use Rattle.judge.specs.declared.Verdict.TheVariants.{Accepted}
+use Rattle.judge.specs.Refusal.{Accepted}
 use borrow.Author.Tests.{eq-eqb, ne_eqb}
 use mathlib.Core.Path.{◌≡◌, sym, ap, ◌∙◌}
 use borrow.Enum.Refused.{opened}

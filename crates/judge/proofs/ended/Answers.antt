@@ -5,7 +5,7 @@ use native.Mathlib.Omega.{arith}
 use mathlib.Core.List.{List}
 use lib.ListN.{length}
 use borrow.Author.Tests.{eq-eqb, ne_eqb}
-use Rattle.amounts.specs.declared.Outcome.{Outcome}
+use Rattle.refusal.specs.Outcomes.{Outcome}
 use Rattle.text.specs.Characters.{first_bad}
 use Rattle.rules.specs.Checks.{char_fault}
 use Rattle.judge.specs.Flow.{refused_with, after}
@@ -36,8 +36,8 @@ ended_by c =
 pub returns-then-k-count : goal.returns-then-k-count
 returns-then-k-count c = rw (eq-eqb c.args.st.seen (length c.args.flow.now / 120) (let e = c.requires.0 in let t = c.if-k-count.true in omega arith)) c.closing_of.ensures
 
-pub returns-in-Fault : goal.returns-in-Fault
-returns-in-Fault c = c.refused.ensures ∙ sym (ended_by (goal.at.returns-in-Fault c).After-char_fault ∙ ap (said (goal.at.returns-in-Fault c).After-char_fault) c.in-Fault.is)
+pub returns-in-Err : goal.returns-in-Err
+returns-in-Err c = c.refused.ensures ∙ sym (ended_by (goal.at.returns-in-Err c).After-char_fault ∙ ap (said (goal.at.returns-in-Err c).After-char_fault) c.in-Err.is)
 
-pub returns-in-Pass : goal.returns-in-Pass
-returns-in-Pass c = c.refused-in-Pass.ensures ∙ sym (ended_by (goal.at.returns-in-Pass c).After-char_fault ∙ ap (said (goal.at.returns-in-Pass c).After-char_fault) c.in-Pass.is)
+pub returns-in-Ok : goal.returns-in-Ok
+returns-in-Ok c = c.refused-in-Ok.ensures ∙ sym (ended_by (goal.at.returns-in-Ok c).After-char_fault ∙ ap (said (goal.at.returns-in-Ok c).After-char_fault) c.in-Ok.is)

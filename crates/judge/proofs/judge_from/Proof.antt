@@ -19,7 +19,7 @@ use Rattle.rules.specs.Checks.{char_fault, bad_fields, number_fault, fault}
 use Rattle.order.specs.Order.{standing}
 use Rattle.order.proofs.Fitting.{fits-passes}
 use Rattle.rules.specs.declared.State.{State}
-use Rattle.amounts.specs.declared.Outcome.TheVariants.{Pass, Fault}
+use Rattle.refusal.specs.Outcomes.{Pass, Fails}
 use Rattle.layout.specs.Fields.{nowhere, delega_number, fields_of, bytes_of, value_of}
 use Rattle.layout.specs.Forms.{form_of}
 use Rattle.layout.specs.Kinds.{numbered, type_in, kind_in}
@@ -30,8 +30,7 @@ use Rattle.layout.proofs.OtherKinds.{no-taxpayer}
 use Rattle.text.specs.Numbers.{number_of, amount_of, digits_of}
 use Rattle.words.specs.Words.{word, fifteen_of}
 use Rattle.text.specs.Characters.{first_bad}
-use Rattle.text.specs.declared.Characters.TheVariants.{Allowed}
-use Rattle.text.specs.declared.Digits.TheVariants.{Number}
+use Rattle.text.specs.Answers.{Allowed, Number}
 use Rattle.records.proofs.CleanRecords.{clean-record}
 use Rattle.words.proofs.FifteenDigits.{amount-number}
 use lib.ListN.{length, take, drop, get_or, set, replicate}
@@ -324,7 +323,7 @@ judged-by c =
     ∙ ap (λ (vs : List ℕ). values_on (name (rv c)) (st (rv c)) (kind_in (r (rv c))) vs (r (rv c))) m.1)))
 
 -- the judgement of a record that was misread
-misread-out : (c : AtNumbered) → (bad_fields (fields_of (kind_in (r (rec-of c)))) (r (rec-of c)) ≡ Pass → number_fault (st (rec-of c)).deleghe (kind_in (r (rec-of c))) (value_of (r (rec-of c)) delega_number) ≡ Fault 8 4) → Out (after (bad_fields (fields_of (formed c).form_in-form.result.kind) (r (rec-of c))) (st (rec-of c)).seen (refused_with 8 ((st (rec-of c)).seen + 1) 4)) (run (rec-of c)) (st (rec-of c))
+misread-out : (c : AtNumbered) → (bad_fields (fields_of (kind_in (r (rec-of c)))) (r (rec-of c)) ≡ Pass → number_fault (st (rec-of c)).deleghe (kind_in (r (rec-of c))) (value_of (r (rec-of c)) delega_number) ≡ Fails 8 4) → Out (after (bad_fields (fields_of (formed c).form_in-form.result.kind) (r (rec-of c))) (st (rec-of c)).seen (refused_with 8 ((st (rec-of c)).seen + 1) 4)) (run (rec-of c)) (st (rec-of c))
 misread-out c w =
     let q = rec-of c in
     let o = out-misread (flow q) (name q) (run q) (st q) (going q) (more q) (r q) q.record_at-rec.ensures (printed q) (stood c) w in
@@ -429,11 +428,11 @@ loop-again c =
     let l = i.before in
     let n = is_number (next-of l) in
     let fr = behind (kind_in (rl l)) in
-    let v = amount-number _ _ (sym c.in-Amount.is ∙ said a) in
+    let v = amount-number _ _ (sym c.in-Some.is ∙ said a) in
     let x = map (value_of (rl l)) (take (f-of i) fr) ++ replicate (3 - f-of i) 0 in (
       omega (arith, ahead i),
       l.loop-f.invariant.1 ∙ bad-on _ _ _ (ahead i) _ v,
-      rw l.loop-f.invariant.2 (ap (λ (m : ℕ). set (d-of (next-of l) ∷ x) m c.in-Amount.v) (add-one (f-of i)) ∙ ap (λ (t : List ℕ). d-of (next-of l) ∷ t) (rw (← (ap amount_of v)) (read-on fr (rl l) (f-of i) (ahead i) 3 (three i)))),
+      rw l.loop-f.invariant.2 (ap (λ (m : ℕ). set (d-of (next-of l) ∷ x) m c.in-Some.v) (add-one (f-of i)) ∙ ap (λ (t : List ℕ). d-of (next-of l) ∷ t) (rw (← (ap amount_of v)) (read-on fr (rl l) (f-of i) (ahead i) 3 (three i)))),
       λ g. let e = at-is i in sym (behind-next (rl l) n (f-of i) (ahead i) g ∙ ap (λ (m : ℕ). m + (15 + f-of i)) (sym e)),
     )
 
@@ -455,13 +454,13 @@ refused-requires c κs = search rules
 values-fault-requires : tie.Need-values_fault-requires invariant-loop decreases-loop invariant-records decreases-records
 values-fault-requires c κs = let q = rec-of c.before in let b = (going q).below.deleghe-below in let s = small q in (whole q, (begun (first_of q)).requires.2, omega arith, omega arith)
 
-enum-known-number : tie.Need-enum_known-number invariant-loop decreases-loop invariant-records decreases-records
-enum-known-number c = search rules
+enum-known-fault : tie.Need-enum_known-fault invariant-loop decreases-loop invariant-records decreases-records
+enum-known-fault c = search rules
 
-add-refused-2 : tie.Need-overflow_add-k-in-Fault invariant-loop decreases-loop invariant-records decreases-records
+add-refused-2 : tie.Need-overflow_add-k-in-Err invariant-loop decreases-loop invariant-records decreases-records
 add-refused-2 c = omega (arith, small (rv c.before))
 
-refused-requires-2 : tie.Need-refused-judgement-requires-in-Fault invariant-loop decreases-loop invariant-records decreases-records
+refused-requires-2 : tie.Need-refused-judgement-requires-in-Err invariant-loop decreases-loop invariant-records decreases-records
 refused-requires-2 c κs = search rules
 
 enum-told-3 : tie.Need-enum_told-in_default-values_fault invariant-loop decreases-loop invariant-records decreases-records
@@ -537,12 +536,12 @@ leaves-bad-field c =
     let o = out-bad (flow q) (name q) (run q) (st q) (going q) (more q) (r q) q.record_at-rec.ensures (printed q) (stood n) (values-bad _ _ (λ z. c.if-read-ne0.true (ap (λ (x : Values). x.bad) (read-plainly v) ∙ z))) in
     (c.refused-judgement.ensures ∙ (ap (λ (x : Values). refused_with 7 ((st q).seen + 1) x.bad) (read-plainly v) ∙ o.0), o.1)
 
-leaves-bad-value : (c : tie.After-refused-judgement-in-Fault invariant-loop decreases-loop invariant-records decreases-records) → Leaves (rv c.before.before).before.before c.refused-judgement-in-Fault.result
+leaves-bad-value : (c : tie.After-refused-judgement-in-Err invariant-loop decreases-loop invariant-records decreases-records) → Leaves (rv c.before.before).before.before c.refused-judgement-in-Err.result
 leaves-bad-value c =
     let v = c.before.before in
     let q = rv v in
-    let o = out-fault (flow q) (name q) (run q) (st q) (going q) (more q) (r q) q.record_at-rec.ensures (judged-by v ∙ c.in-Fault.is) in
-    (c.refused-judgement-in-Fault.ensures ∙ o.0, o.1)
+    let o = out-fault (flow q) (name q) (run q) (st q) (going q) (more q) (r q) q.record_at-rec.ensures (judged-by v ∙ c.in-Err.is) in
+    (c.refused-judgement-in-Err.ensures ∙ o.0, o.1)
 
 -- where they meet
 abbrev Left : Type 0
@@ -576,7 +575,7 @@ left c =
     let o = leaves-bad-field q in
     (w.judgement-is ∙ o.0, o.1))
     (λ w.
-    let q : tie.After-refused-judgement-in-Fault invariant-loop decreases-loop invariant-records decreases-records = record { before = record { before = record { before = record { before = record { before = record { before = record { before = record { before = record { before = record { before = record { before = c.before; if-k-clean = w.if-k-clean }; record_at-rec = w.record_at-rec }; form_in-form = w.form_in-form }; stage-1 = w.stage-1 }; fits = w.fits }; if-not-fits = w.if-not-fits }; is_numbered = w.is_numbered }; if-is_numbered = w.if-is_numbered }; values_fault = w.values_fault }; in-Fault = w.in-Fault }; refused-judgement-in-Fault = w.refused-judgement-in-Fault } in
+    let q : tie.After-refused-judgement-in-Err invariant-loop decreases-loop invariant-records decreases-records = record { before = record { before = record { before = record { before = record { before = record { before = record { before = record { before = record { before = record { before = record { before = c.before; if-k-clean = w.if-k-clean }; record_at-rec = w.record_at-rec }; form_in-form = w.form_in-form }; stage-1 = w.stage-1 }; fits = w.fits }; if-not-fits = w.if-not-fits }; is_numbered = w.is_numbered }; if-is_numbered = w.if-is_numbered }; values_fault = w.values_fault }; in-Err = w.in-Err }; refused-judgement-in-Err = w.refused-judgement-in-Err } in
     let o = leaves-bad-value q in
     (w.judgement-is ∙ o.0, o.1))))))
     c.if-k-clean.branch-raw
@@ -639,7 +638,7 @@ judge_from_spec =
     add-refused
     refused-requires
     values-fault-requires
-    enum-known-number
+    enum-known-fault
     add-refused-2
     refused-requires-2
     enum-told-3

@@ -1,6 +1,6 @@
 use mathlib.Core.Path.{◌≡◌, sym, ap, ◌∙◌}
 use Prim.Native.Nat.{◌+◌}
-use Rattle.amounts.specs.declared.Outcome.{Outcome}
+use Rattle.refusal.specs.Outcomes.{Outcome}
 use Rattle.judge.specs.Flow.{refused_with, after}
 use Rattle.order.specs.Order.{standing}
 use Rattle.layout.specs.Kinds.{type_in}
@@ -10,8 +10,8 @@ use Rattle.judge.proofs.misplaced.Goals.{After-standing_of}
 told : (n : After-standing_of) → standing n.args.stage (type_in n.args.rec.now) n.args.kind ≡ n.standing_of.result
 told n = rw (← n.type_in.ensures) (sym n.standing_of.ensures)
 
-pub returns-in-Fault : goal.returns-in-Fault
-returns-in-Fault c = c.refused.ensures ∙ sym (ap (λ (o : Outcome). after o c.args.k (refused_with 4 (c.args.k + 1) 2)) (told (goal.at.returns-in-Fault c).After-standing_of ∙ c.in-Fault.is))
+pub returns-in-Err : goal.returns-in-Err
+returns-in-Err c = c.refused.ensures ∙ sym (ap (λ (o : Outcome). after o c.args.k (refused_with 4 (c.args.k + 1) 2)) (told (goal.at.returns-in-Err c).After-standing_of ∙ c.in-Err.is))
 
-pub returns-in-Pass : goal.returns-in-Pass
-returns-in-Pass c = c.refused-in-Pass.ensures ∙ sym (ap (λ (o : Outcome). after o c.args.k (refused_with 4 (c.args.k + 1) 2)) (told (goal.at.returns-in-Pass c).After-standing_of ∙ c.in-Pass.is))
+pub returns-in-Ok : goal.returns-in-Ok
+returns-in-Ok c = c.refused-in-Ok.ensures ∙ sym (ap (λ (o : Outcome). after o c.args.k (refused_with 4 (c.args.k + 1) 2)) (told (goal.at.returns-in-Ok c).After-standing_of ∙ c.in-Ok.is))

@@ -11,9 +11,9 @@ use Rattle.layout.specs.declared.Field.{Field}
 use Rattle.layout.specs.declared.Fields.{Fields}
 use Rattle.layout.specs.declared.Kind.{Kind}
 use Rattle.layout.specs.Fields.{nowhere, listed, fields_of, bytes_of}
-use Rattle.text.specs.declared.Digits.{Digits}
+use Rattle.std.specs.Result.{is_err}
+use Rattle.text.specs.Answers.{Digits}
 use Rattle.text.specs.Numbers.{number_of}
-use borrow.Enum.Refused.{opened}
 use Rattle.judge.proofs.misread.Goals as goal
 use Rattle.judge.proofs.misread.Goals.{After-read_field-said, At-loop-f, In-loop-f}
 
@@ -80,7 +80,7 @@ returns-in_default c =
     let h = inside (kind l) (fs l) (listed-are l) (f-of p) p.loop-f-test.true in
     let k = l.args.k in
     c.refused.ensures
-    ∙ rw ((held l).1 ∙ bad-here _ _ _ h _ (read p (kind l) _ (listed-are l) r.read_field-said.ensures) (opened c.in_default.in_default-own.keys2)) (ap (refused_with 7 (k + 1)) (c.non_digit_at.ensures ∙ ap (λ (x : Field). non_digit_at x r.read_field-said.result) (field_is (kind l) (fs l) (listed-are l) (f-of p) p.loop-f-test.true)))
+    ∙ rw ((held l).1 ∙ bad-here _ _ _ h _ (read p (kind l) _ (listed-are l) r.read_field-said.ensures) (ap is_err c.in_default.is)) (ap (refused_with 7 (k + 1)) (c.non_digit_at.ensures ∙ ap (λ (x : Field). non_digit_at x r.read_field-said.result) (field_is (kind l) (fs l) (listed-are l) (f-of p) p.loop-f-test.true)))
 
 pub overflow_add-f : goal.overflow_add-f
 overflow_add-f c = let q = (goal.at.overflow_add-f c).In-loop-f in omega (arith, in_four (kind (loop-of q)) (fs (loop-of q)) (listed-are (loop-of q)) (f-of q) q.loop-f-test.true)
@@ -94,7 +94,7 @@ loop-f-preserved c = λ q e.
     let p = (goal.at.loop-f-preserved c).In-loop-f in
     let h = inside q (fs (loop-of p)) e (f-of p) p.loop-f-test.true in
     let i = (loop-of p).loop-f.invariant q e in
-    (omega (arith, h), i.1 ∙ bad-on _ _ _ h _ (sym (read p q _ e r.read_field-said.ensures) ∙ c.in-Number.is))
+    (omega (arith, h), i.1 ∙ bad-on _ _ _ h _ (sym (read p q _ e r.read_field-said.ensures) ∙ c.in-Ok.is))
 
 pub overflow_add-k-2 : goal.overflow_add-k-2
 overflow_add-k-2 c = omega (arith, c.requires.1)

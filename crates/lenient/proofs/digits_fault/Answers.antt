@@ -4,13 +4,13 @@ use mathlib.Core.List.{List}
 use native.Mathlib.Omega.{arith}
 use lib.ListN.{length, take, drop, get_or}
 use lib.Seq.{get_or-take}
-use Rattle.text.specs.declared.Digits.{Digits}
+use Rattle.text.specs.Answers.{Digits}
 use Rattle.text.specs.Numbers.{number_of}
 use Rattle.layout.specs.declared.Field.{Field}
 use Rattle.layout.specs.declared.Fields.{Fields}
 use Rattle.layout.specs.declared.Kind.{Kind}
 use Rattle.layout.specs.Fields.{Within, nowhere, bytes_of}
-use Rattle.amounts.specs.declared.Outcome.TheVariants.{Fault}
+use Rattle.refusal.specs.Outcomes.{Fails}
 use Rattle.rules.specs.Checks.{bad_fields}
 use Rattle.records.specs.Reading.{non_digit_at}
 use Rattle.records.proofs.FieldByField.{non-digit-near, bad-on, bad-here, bad-end}
@@ -89,7 +89,7 @@ pub returns-in_default : goal.returns-in_default
 returns-in_default c =
     let r = (goal.at.returns-in_default c).After-read_field-said in
     let p = (goal.at.returns-in_default c).In-loop-f in
-    ap (Fault 7) (c.non_digit_at.ensures ∙ ap (λ (x : Field). non_digit_at x r.read_field-said.result) (field_is p)) ∙ sym (held (goal.at.returns-in_default c).At-loop-f ∙ bad-here _ _ _ (inside p) _ (read p _ r.read_field-said.ensures) (opened c.in_default.in_default-own.keys2))
+    ap (Fails 7) (c.non_digit_at.ensures ∙ ap (λ (x : Field). non_digit_at x r.read_field-said.result) (field_is p)) ∙ sym (held (goal.at.returns-in_default c).At-loop-f ∙ bad-here _ _ _ (inside p) _ (read p _ r.read_field-said.ensures) (opened c.in_default.in_default-own.keys2))
 
 pub overflow_add-f : goal.overflow_add-f
 overflow_add-f c = omega (arith, in_four (goal.at.overflow_add-f c).In-loop-f)

@@ -9,10 +9,10 @@ use Rattle.layout.specs.declared.Field.{Field}
 use Rattle.layout.specs.declared.Fields.{Fields}
 use Rattle.layout.specs.declared.Kind.{Kind}
 use Rattle.layout.specs.Fields.{nowhere, listed, fields_of, bytes_of, value_of}
-use Rattle.text.specs.declared.Digits.{Digits}
+use Rattle.std.specs.Result.{is_err}
+use Rattle.text.specs.Answers.{Digits}
 use Rattle.text.specs.Numbers.{number_of, amount_of}
 use Rattle.records.specs.Reading.{non_digit_at, values_read}
-use borrow.Enum.Refused.{opened}
 use Rattle.records.proofs.values_in.Goals as goal
 use Rattle.records.proofs.values_in.Goals.{After-loop-f, After-read_field-said, At-loop-f, In-loop-f}
 
@@ -75,7 +75,7 @@ returns-in_default c =
     let p = (goal.at.returns-in_default c).In-loop-f in
     let l = loop-of p in
     let h = inside (kind l) (fs l) (listed-are l) (f-of p) p.loop-f-test.true in
-    rw ((held l).1 ∙ bad-here _ _ _ h _ (read p (kind l) _ (listed-are l) r.read_field-said.ensures) (opened c.in_default.in_default-own.keys2)) (ap (λ (n : ℕ). record { bad = n; values = replicate 4 0 }) (c.non_digit_at.ensures ∙ ap (λ (x : Field). non_digit_at x r.read_field-said.result) (field_is (kind l) (fs l) (listed-are l) (f-of p) p.loop-f-test.true)))
+    rw ((held l).1 ∙ bad-here _ _ _ h _ (read p (kind l) _ (listed-are l) r.read_field-said.ensures) (ap is_err c.in_default.is)) (ap (λ (n : ℕ). record { bad = n; values = replicate 4 0 }) (c.non_digit_at.ensures ∙ ap (λ (x : Field). non_digit_at x r.read_field-said.result) (field_is (kind l) (fs l) (listed-are l) (f-of p) p.loop-f-test.true)))
 
 pub offset_bounds-values-f : goal.offset_bounds-values-f
 offset_bounds-values-f c = let q = (goal.at.offset_bounds-values-f c).In-loop-f in omega (arith, in_four (kind (loop-of q)) (fs (loop-of q)) (listed-are (loop-of q)) (f-of q) q.loop-f-test.true)
@@ -95,7 +95,7 @@ loop-f-preserved c = λ q e.
     let p = (goal.at.loop-f-preserved c).In-loop-f in
     let h = inside q (fs (loop-of p)) e (f-of p) p.loop-f-test.true in
     let i = (loop-of p).loop-f.invariant q e in
-    let v = sym (read p q _ e r.read_field-said.ensures) ∙ c.in-Number.is in
+    let v = sym (read p q _ e r.read_field-said.ensures) ∙ c.in-Ok.is in
     (omega (arith, h), i.1 ∙ bad-on _ _ _ h _ v, rw (i.2, ← (ap amount_of v)) (read-on _ _ _ h 4 (in_four q (fs (loop-of p)) e (f-of p) p.loop-f-test.true)))
 
 pub returns : goal.returns

@@ -6,8 +6,7 @@ use mathlib.Core.List.{List}
 use lib.ListN.{drop}
 use Rattle.layout.specs.declared.Kind.TheVariants.{Taxpayer, Domicile, Payment}
 use Rattle.sheet.specs.declared.Spot.{Spot}
-use Rattle.sheet.specs.declared.Walked.{Walked}
-use Rattle.sheet.specs.declared.Walked.TheVariants.{To}
+use Rattle.sheet.specs.Answers.{Walked, To}
 use Rattle.sheet.specs.Walk.{Follows}
 use Rattle.sheet.specs.Sheet.{Reading, and_then, one_record, sections_from, one_delega}
 use Rattle.sheet.proofs.Walks.{Going, going_start, going-by, going-then, going-stop, going-room}

@@ -10,8 +10,7 @@ use Rattle.text.proofs.Bytes.{part_length}
 use Rattle.layout.specs.declared.Kind.TheVariants.{Head, Tail}
 use Rattle.layout.specs.Fields.{bytes_of, support_name}
 use Rattle.sheet.specs.declared.Spot.{Spot}
-use Rattle.sheet.specs.declared.Walked.{Walked}
-use Rattle.sheet.specs.declared.Walked.TheVariants.{To}
+use Rattle.sheet.specs.Answers.{Walked, To}
 use Rattle.sheet.specs.Sheet.{Reading, and_then, one_record, counted, deleghe_from, at_end, sheet_of}
 use Rattle.sheet.specs.Walk.{start_spot, Follows}
 use Rattle.sheet.proofs.Walks.{Going, going_start, going-by, going-then, going-stop}

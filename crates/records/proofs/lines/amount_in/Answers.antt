@@ -16,12 +16,12 @@ fifteen c =
     let e : 15 ≡ at + 15 - at = omega arith in
     ap (λ n. take n (drop at c.args.rec.now)) e
 
-pub returns-in-Amount : goal.returns-in-Amount
-returns-in-Amount c =
-    let s = (goal.at.returns-in-Amount c).After-any_amount_at in
-    sym (ap amount_of (ap number_of (sym (fifteen s)) ∙ amount-number _ _ (sym c.in-Amount.is ∙ s.any_amount_at.ensures)))
+pub returns-in-Some : goal.returns-in-Some
+returns-in-Some c =
+    let s = (goal.at.returns-in-Some c).After-any_amount_at in
+    sym (ap amount_of (ap number_of (sym (fifteen s)) ∙ amount-number _ _ (sym c.in-Some.is ∙ s.any_amount_at.ensures)))
 
-pub returns-in-NonDigit : goal.returns-in-NonDigit
-returns-in-NonDigit c =
-    let s = (goal.at.returns-in-NonDigit c).After-any_amount_at in
-    sym (ap amount_of (ap number_of (sym (fifteen s))) ∙ none-zero (number_of (take 15 (drop s.args.at s.args.rec.now))) (sym c.in-NonDigit.is ∙ s.any_amount_at.ensures))
+pub returns-in-None : goal.returns-in-None
+returns-in-None c =
+    let s = (goal.at.returns-in-None c).After-any_amount_at in
+    sym (ap amount_of (ap number_of (sym (fifteen s))) ∙ none-zero (number_of (take 15 (drop s.args.at s.args.rec.now))) (sym c.in-None.is ∙ s.any_amount_at.ensures))
