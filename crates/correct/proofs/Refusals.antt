@@ -33,8 +33,7 @@ nowhere-told f {m} {p} e = go ((refused-exactly f (refusal m 0 p)).0 (ap refusal
 -- What an answer's number, record and position say, the answer is.
 told-as : (c : Correction) (m r p : ℕ) → (m ≡ 0 → ⊥) → refusal_made c ≡ refusal m r p → c ≡ Refused m r p
 told-as Made m r p z e = absurd (z (sym (ap (λ (t : Refusal). t.number) e)))
-told-as (Refused i j k) m r p z e =
-    rw (ap (λ (t : Refusal). t.number) e, ap (λ (t : Refusal). t.«record») e, ap (λ (t : Refusal). t.position) e)
+told-as (Err why) m r p z e = ap Err e
 
 module _ (f : List ℕ) (d subtype n x y : ℕ) where
   -- 21, "no such delega, section or line"
@@ -110,6 +109,6 @@ module _ (f : List ℕ) (d subtype n x y : ℕ) where
     where
       go : (c : Correction) → correction_of f d subtype n x y ≡ c → refusal_made (correction_of f d subtype n x y) ≡ no_refusal → MayBeMade f d subtype n x y
       go Made q e = answered-made.0 q
-      go (Refused m r p) q e =
-          let z : m ≡ 0 = ap (λ (t : Refusal). t.number) (sym (ap refusal_made q) ∙ e) in
+      go (Err why) q e =
+          let z : why.number ≡ 0 = ap (λ (t : Refusal). t.number) (sym (ap refusal_made q) ∙ e) in
           absurd (omega (arith, refused-number ((answered-exactly f d subtype n x y _).0 q)))

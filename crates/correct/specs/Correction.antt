@@ -19,7 +19,7 @@ use Rattle.correct.specs.Answers.{Correction, Made, Refused}
 -- the refusal of an answer; a correction that is made has none
 abbrev pub refusal_made : Correction → Refusal
 refusal_made Made = no_refusal
-refusal_made (Err why) = refusal why.number why.«record» why.position
+refusal_made (Err why) = why
 
 -- the section whose lines have a subtype; past the table where there is none
 abbrev pub section_of : ℕ → ℕ

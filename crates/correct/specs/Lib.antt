@@ -1,3 +1,4 @@
+pub mod Answers
 pub mod Correction
 pub mod Effect
 pub mod WhenRefused

@@ -1,4 +1,5 @@
 -- When one delega is answered, and when it is refused 21, by the number, the record and the position that are told.
+use Rattle.std.specs.Prelude.{Err}
 use Prim.Native.Nat.{ℕ, ◌<◌, ◌≤◌}
 use mathlib.Core.Path.{◌≡◌, refl, sym, ap, ◌∙◌}
 use mathlib.Core.List.{List}
@@ -61,6 +62,6 @@ answered-exactly s d = (λ e. by-verdict (judged s).verdict refl e, λ h. inside
 
     by-verdict : (v : Verdict) → (judged s).verdict ≡ v → told s d ≡ no_refusal → ((judged s).verdict ≡ Accepted) × (1 ≤ d) × (d ≤ (judged s).summary.deleghe)
     by-verdict Accepted q e = by-which q e (which s d q)
-    by-verdict (Refused n r p) q e =
-        let z : n ≡ 0 = ap (λ (t : Refusal). t.number) (sym (ap told-by (delega-of-refused s d q)) ∙ e) in
+    by-verdict (Err why) q e =
+        let z : why.number ≡ 0 = ap (λ (t : Refusal). t.number) (sym (ap told-by (delega-of-refused s d q)) ∙ e) in
         absurd (omega (arith, (judgement-number s q).0))

@@ -11,7 +11,7 @@ use Rattle.dropping.specs.Answers.{Dropping, Dropped, Refused}
 -- "A refusal is a number, a record counted from 1, and a position": that of an answer; a flow that is shortened has none
 abbrev pub refusal_dropped : Dropping → Refusal
 refusal_dropped (Dropped n) = no_refusal
-refusal_dropped (Err why) = refusal why.number why.«record» why.position
+refusal_dropped (Err why) = why
 
 -- "close the flow up over them, renumber the rest from 1, and set the tail": the flow that is left
 unfoldable pub shortened : List ℕ → List ℕ → List ℕ

@@ -1,3 +1,4 @@
+pub mod Answers
 pub mod Dropping
 pub mod Inner
 pub mod Effect

@@ -1,3 +1,4 @@
+pub mod Answers
 pub mod Payments
 pub mod Stream
 pub mod Bounds

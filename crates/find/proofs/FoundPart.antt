@@ -8,6 +8,7 @@ use mathlib.Core.Logic.{◌↔◌}
 use native.Mathlib.Omega.{arith}
 use lib.Dec.{eqb}
 use lib.ListN.{length, get_or}
+use Rattle.refusal.proofs.Parts.{refused-parts}
 use Rattle.judge.specs.Refusal.{Verdict, Accepted, Refused, judged_first}
 use Rattle.refusal.specs.declared.Refusal.{Refusal}
 use Rattle.refusal.specs.Refusals.{no_refusal}
@@ -49,12 +50,12 @@ unfolding found_in
 found_number f d subtype n m r p e = by-verdict (judged f).verdict refl e
   where
     by-line : (b : Bool) → cond b (Answer.Refused 21 0 0) (Answer.At (line_of f d subtype n)) ≡ Answer.Refused m r p → 1 ≤ m
-    by-line true q = let x : 21 ≡ m = cc in omega arith
+    by-line true q = let x : 21 ≡ m = (refused-parts q).0 in omega arith
     by-line false q = let z : ◌≡◌ {A = ℕ} 0 1 = cc in absurd (omega arith)
 
     by-verdict : (v : Verdict) → (judged f).verdict ≡ v → judged_first Answer.Refused v (or_absent (line_of f d subtype n)) ≡ Answer.Refused m r p → 1 ≤ m
     by-verdict Accepted h q = by-line (eqb (line_of f d subtype n) 0) q
-    by-verdict (Err why) h q = let w : why.number ≡ m = cc in omega (arith, (judgement-number f h).0)
+    by-verdict (Err why) h q = let w : why.number ≡ m = (refused-parts q).0 in omega (arith, (judgement-number f h).0)
 
 -- "A refusal is a number, a record counted from 1, and a position": an answer has none exactly where it names a record
 pub found-refusal : (f : List ℕ) (d subtype n : ℕ) → (refusal_found (found_in f d subtype n) ≡ no_refusal) ↔ ((k : ℕ) × (found_in f d subtype n ≡ Answer.At k))
@@ -62,6 +63,6 @@ found-refusal f d subtype n = (λ e. by_answer (found_in f d subtype n) refl e, 
   where
     by_answer : (a : Found) → found_in f d subtype n ≡ a → refusal_found (found_in f d subtype n) ≡ no_refusal → (k : ℕ) × (found_in f d subtype n ≡ Answer.At k)
     by_answer (Answer.At k) q e = (k, q)
-    by_answer (Answer.Refused m r p) q e =
-        let z : m ≡ 0 = ap (λ (x : Refusal). x.number) (sym (ap refusal_found q) ∙ e) in
-        absurd (omega (arith, found_number f d subtype n m r p q))
+    by_answer (Err why) q e =
+        let z : why.number ≡ 0 = ap (λ (x : Refusal). x.number) (sym (ap refusal_found q) ∙ e) in
+        absurd (omega (arith, found_number f d subtype n why.number why.«record» why.position q))

@@ -1,4 +1,5 @@
 -- Of an accepted flow the line that is found is the one that is named, over the plain records: the n-th line of that subtype that carries that delega's number.
+use Rattle.std.specs.Prelude.{Err}
 use Prim.Native.Nat.{ℕ, ◌+◌, ◌-◌}
 use mathlib.Core.Path.{◌≡◌, refl, sym, ap, ap₂, ◌∙◌}
 use mathlib.Core.Bool.{Bool, true, false, cond, false≢true}
@@ -148,8 +149,7 @@ absent-answered f d subtype n a =
 -- what an answer's number, record and position say, the answer is
 told-as : (a : Found) (m r p : ℕ) → (m ≡ 0 → ⊥) → refusal_found a ≡ refusal m r p → a ≡ Answer.Refused m r p
 told-as (Answer.At k) m r p z e = absurd (z (sym (ap (λ (t : Refusal). t.number) e)))
-told-as (Answer.Refused i j k) m r p z e =
-    rw (ap (λ (t : Refusal). t.number) e, ap (λ (t : Refusal). t.«record») e, ap (λ (t : Refusal). t.position) e)
+told-as (Err why) m r p z e = ap Err e
 
 -- 21, "no such delega, section or line", exactly where no record is that line
 pub absent-exactly : (f : List ℕ) (d subtype n : ℕ) → (judged f).verdict ≡ Accepted → (refusal_found (found_in f d subtype n) ≡ refusal 21 0 0) ↔ ((k : ℕ) → NthLine f d subtype n k → ⊥)

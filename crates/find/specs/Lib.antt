@@ -1,3 +1,4 @@
+pub mod Answers
 pub mod Line
 pub mod Part
 pub mod NamedLine

@@ -16,7 +16,7 @@ use Rattle.find.specs.Answers as Answer
 -- the refusal of an answer; a line that is found has none
 abbrev pub refusal_found : Found → Refusal
 refusal_found (Answer.At k) = no_refusal
-refusal_found (Err why) = refusal why.number why.«record» why.position
+refusal_found (Err why) = why
 
 -- a record of this kind, at this stage of delega e, is the n-th line of section s in delega d
 abbrev pub is_line : ℕ → ℕ → ℕ → Stage → ℕ → Kind → Bool

@@ -8,16 +8,9 @@ ghost use Rattle.judge.specs.Part.{LiesAt};
 ghost use Rattle.find.specs.Line.{is_line, line_from, found_in};
 ghost use Rattle.find.specs.Part.{part_start, part_of};
 
-use judge::Verdict;
 use layout::{Flow, Kind};
 use order::Stage;
-
-// The answer: the number of the line's record, counted from 1, or the refusal.
-#[derive(Clone, Copy)]
-pub enum Found {
-    At(usize),
-    Refused(u64, usize, usize),
-}
+use refusal::Refusal;
 
 // A record of this kind, at this stage of the delega opened last, is the line that is asked for.
 fn is_line(delega: u64, section: usize, nth: u64, at: Stage, opened: u64, kind: Kind) -> bool
@@ -62,31 +55,27 @@ fn line_in(flow: &[u8], delega: u64, section: usize, nth: u64) -> usize
     0
 }
 
-// The flow is judged first, and its refusal is handed on.
-pub fn find(flow: &[u8], delega: u64, subtype: u64, nth: u64) -> Found
+// The number of the line's record, counted from 1, or the refusal. The flow is judged first, and its refusal is handed on.
+pub fn find(flow: &[u8], delega: u64, subtype: u64, nth: u64) -> Result<usize, Refusal>
     ensures { result ≡ found_in flow.now delega subtype nth }
 {
-    let judgement = judge::judge(flow);
-    let verdict = judgement.verdict;
-    if let Verdict::Refused(number, at, position) = verdict {
-        return Found::Refused(number, at, position);
-    }
+    judge::judge(flow).verdict?;
     let Kind::Line(section) = layout::section_kind(subtype) else {
-        return Found::Refused(21, 0, 0);
+        return Err(Refusal::NO_SUCH_LINE);
     };
     let k = line_in(flow, delega, section, nth);
     if k == 0 {
-        return Found::Refused(21, 0, 0);
+        return Err(Refusal::NO_SUCH_LINE);
     }
-    Found::At(k)
+    Ok(k)
 }
 
 // The record that was found, within the caller's own buffer; an empty part with a refusal, and where the flow has no such record.
-pub fn part_of(flow: &[u8], found: Found) -> &[u8]
+pub fn part_of(flow: &[u8], found: Result<usize, Refusal>) -> &[u8]
     ensures { LiesAt flow.entry (part_of flow.now found) (part_start flow.now found) result }
 {
     match found {
-        Found::At(k) => judge::nth_record(flow, k),
-        Found::Refused(_, _, _) => &flow[0..0],
+        Ok(k) => judge::nth_record(flow, k),
+        Err(_) => &flow[0..0],
     }
 }

@@ -107,7 +107,7 @@ call-changes-nothing (Drop numbers) b h = go (dropping_with b.kept b.flow number
   where
     go : (a : Dropping) → dropping_with b.kept b.flow numbers ≡ a → after_call (Drop numbers) b ≡ b
     go (Shorter.Dropped m) e = absurd (h ((dropping-done b.kept b.flow numbers m).0 e).1)
-    go (Shorter.Refused m r p) e =
+    go (Err why) e =
         let w = dropping-refused b.kept b.flow numbers e in
         ap₂ (λ s l. record { flow = s; kept = l }) (cut_by b numbers e ∙ w.0) w.1
 

@@ -79,8 +79,8 @@ lenient-none f e = go (remaining f) refl
   where
     go : (v : Lenient) → remaining f ≡ v → remaining f ≡ Leniently.Passed
     go Leniently.Passed q = q
-    go (Leniently.Refused n r p) q =
-        let z : n ≡ 0 = ap (λ (y : Refusal). y.number) (sym (ap refusal_lenient q) ∙ e) in
+    go (Err why) q =
+        let z : why.number ≡ 0 = ap (λ (y : Refusal). y.number) (sym (ap refusal_lenient q) ∙ e) in
         absurd (omega (arith, remaining-number f q))
 
 lenient-long : (f : List ℕ) → 65520 < length f → 1 ≤ (lenient f).number

@@ -1,4 +1,5 @@
 -- A rebalancing that takes a record: where the record stands for the flow it is the plain one and hands the record back, which stands for the flow afterwards; else it is refused and changes nothing.
+use Rattle.std.specs.Prelude.{Err}
 use Prim.Native.Nat.{ℕ}
 use mathlib.Core.Path.{◌≡◌, sym, ap, ◌∙◌}
 use mathlib.Core.Bool.{true, false}
@@ -50,6 +51,6 @@ module _ (k : KeptSums) (f list : List ℕ) where
       let l : k ≡ kept_of (mended_flow f list) = (stands-exactly k f).0 e ∙ sym (mended-sums f list (sym h)) in
       let w = answering (Mended n) (h ∙ sym (guarded-plain (mending-guarded k f list) e)) in
       (ap (λ (x : KeptSums). record { answer = Mended n; kept = x }) l ∙ w.0, eg ∙ w.1, et ∙ w.2)
-  answer-plain e (Refused m r p) h g t eg et =
+  answer-plain e (Err why) h g t eg et =
       let s = refused-stays f list (sym h) in
-      rw (eg ∙ s.0, et ∙ s.1) (answer-refused m r p (guarded-plain (mending-guarded k f list) e ∙ sym h))
+      rw (eg ∙ s.0, et ∙ s.1) (answer-refused why.number why.«record» why.position (guarded-plain (mending-guarded k f list) e ∙ sym h))

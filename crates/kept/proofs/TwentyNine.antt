@@ -81,8 +81,8 @@ module _ (k : KeptSums) (f : List ℕ) where
       where
         go : (a : Mending) → mending_of f list ≡ a → refusal_mended a ≡ refusal 29 0 0 → ⊥
         go (Mend.Mended m) e q = number-0 refl q
-        go (Mend.Refused m r p) e q =
-            let z : m ≡ 29 = ap (λ (t : Refusal). t.number) q in
+        go (Err why) e q =
+            let z : why.number ≡ 29 = ap (λ (t : Refusal). t.number) q in
             false≢true (rw z at (mending-numbers f list e))
 
     lenient-never : lenient f ≡ refusal 29 0 0 → ⊥

@@ -10,7 +10,7 @@ use Rattle.sums.specs.LineSums.{kept_of}
 -- The refusal of a lenient judgement; one that passes has none.
 abbrev pub refusal_lenient : Lenient → Refusal
 refusal_lenient Leniently.Passed = no_refusal
-refusal_lenient (Err why) = refusal why.number why.«record» why.position
+refusal_lenient (Err why) = why
 
 -- "29 for such a call, after the judgement's own refusals and before all others": what is answered to a call on a flow with a record, and when; x is the refusal of the call's own judgement of the flow, and plain what the call without a record is answered.
 pub data Answers {A : Type 0} (refused : ℕ → ℕ → ℕ → A) (plain : A) (x : Refusal) (k : KeptSums) (f : List ℕ) : A → Type 0 where

@@ -1,3 +1,4 @@
+pub mod Answers
 pub mod Mending
 pub mod Inner
 pub mod WhenRefused

@@ -17,7 +17,7 @@ use Rattle.mend.specs.Answers.{Mending, Mended, Refused}
 -- "A refusal is a number, a record counted from 1, and a position": that of an answer; a flow that is rebalanced has none
 abbrev pub refusal_mended : Mending → Refusal
 refusal_mended (Mended n) = no_refusal
-refusal_mended (Err why) = refusal why.number why.«record» why.position
+refusal_mended (Err why) = why
 
 -- "the first remaining fault of 01's checks", in records after those that led to a state: of each record those that rebalancing leaves alone, and 5 behind the last
 unfoldable pub remaining_from : List ℕ → State → List (List ℕ) → Lenient

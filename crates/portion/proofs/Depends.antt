@@ -46,7 +46,7 @@ same-run name st (r ∷ rs) (t ∷ ts) l e = go (fault name st r) refl e (λ h. 
         let a : r ≡ t = cc in
         let b : take (steps name (next st r) rs) rs ≡ take (steps name (next st r) rs) ts = cc in
         ap₂ (λ (i : List ℕ) (x : Run). stopped (fault name st i) st x) a (on b ∙ ap (λ (i : List ℕ). ran name (next st i) ts) a)
-    go (Fails c d) f h on =
+    go (Err why) f h on =
         let a : r ≡ t = cc in
         ap (λ (o : Outcome). stopped o st (ran name (next st r) rs)) f ∙ sym (ap (λ (o : Outcome). stopped o st (ran name (next st t) ts)) (ap (fault name st) (sym a) ∙ f))
 

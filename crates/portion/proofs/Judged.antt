@@ -176,9 +176,9 @@ module _ (s : List ℕ) (w : Whole s) where
       where
         needs : (o : Outcome) → all.fault ≡ o → all.state.seen ≡ rest.state.seen → all.fault ≡ rest.fault → Stands rest.fault now.state.seen (length (take count (drop p (rest_of s start_state.seen)))) rest.state.seen → p < needed s
         needs Pass g b c t = let d = need-all g in let z = zero_seen in let u = further s p 0 start_progress start-possible goes n f h in omega arith
-        needs (Fails e k) g b c t =
+        needs (Err why) g b c t =
             let d = need-fault g in
-            let v : Stands (Fails e k) now.state.seen (length (take count (drop p (rest_of s start_state.seen)))) rest.state.seen = rw (sym c ∙ g) at t in
+            let v : Stands (Err why) now.state.seen (length (take count (drop p (rest_of s start_state.seen)))) rest.state.seen = rw (sym c ∙ g) at t in
             let z = zero_seen in
             let u = further s p 0 start_progress start-possible goes n f h in
             omega arith

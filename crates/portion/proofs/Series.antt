@@ -58,8 +58,8 @@ module _ (s : List ℕ) (x : Progress) (y : possible x ≡ true) (c : x.course �
     then e = ap (λ (a : Portion). portioned s q a.next) (on p w m) ∙ (e ∙ sym (on (p + q) w m))
 
     by-run : (p ≡ 0 → ⊥) → (o : Outcome) → (examining s p x).fault ≡ o → Dec ((examining s p x).state.seen < length s / 120) → portioned s q (went_on s p x) ≡ told (went_on s (p + q) x)
-    by-run n (Fails e k) f d =
-        ended-again s q (went_on s p x) (Judged.Refused e ((examining s p x).state.seen + 1) k) (went-sound s p x y (goes w m) n) (ap (λ (z : Progress). z.course) (went s p x n) ∙ ap (λ (z : Outcome). course_after (length s / 120) z (examining s p x).state) f)
+    by-run n (Err why) f d =
+        ended-again s q (went_on s p x) (Judged.Refused why.number ((examining s p x).state.seen + 1) why.position) (went-sound s p x y (goes w m) n) (ap (λ (z : Progress). z.course) (went s p x n) ∙ ap (λ (z : Outcome). course_after (length s / 120) z (examining s p x).state) f)
         ∙ ap told (sym (stopped-there s p q x y (goes w m) n f))
     by-run n Pass f (no d) =
         ended-again s q (went_on s p x) (closing (examining s p x).state).verdict (went-sound s p x y (goes w m) n) (ap (λ (z : Progress). z.course) (went s p x n) ∙ (ap (λ (z : Outcome). course_after (length s / 120) z (examining s p x).state) f ∙ rw (le-ltb (examining s p x).state.seen (length s / 120) (omega arith))))

@@ -16,7 +16,7 @@ use Rattle.walk.specs.declared.Stepped.{Stepped}
 abbrev pub refusal_in : Answer → Refusal
 refusal_in (Shown k) = no_refusal
 refusal_in NoMore = no_refusal
-refusal_in (Err why) = refusal why.number why.«record» why.position
+refusal_in (Err why) = why
 
 -- "forward only": one more, where a usize holds it
 unfoldable pub place_next : WalkPlace → WalkPlace

@@ -45,9 +45,9 @@ misfit-later name n (e ∷ es) m z k p l h = go (slot_fault e.slot (filled name 
   where
     go : (o : Outcome) → ((misfit_from name (n + 1) es m).at ≡ k → ⊥) → (misfit_from name (n + 1) es (or_misfit m (n + 1) o)).at ≡ k → ⊥
     go Pass rest i = rest i
-    go (Fails q r) rest i =
-        let x : Misfit = record { at = n + 1; position = r } in
-        let j : misfit_from name (n + 1) es (or_misfit m (n + 1) (Fails q r)) ≡ x = rw (eq-eqb m.at 0 z) (misfit-stays name (n + 1) es x (λ t. let u : n + 1 ≡ 0 = t in omega arith)) in
+    go (Err why) rest i =
+        let x : Misfit = record { at = n + 1; position = why.position } in
+        let j : misfit_from name (n + 1) es (or_misfit m (n + 1) (Err why)) ≡ x = rw (eq-eqb m.at 0 z) (misfit-stays name (n + 1) es x (λ t. let u : n + 1 ≡ 0 = t in omega arith)) in
         let v : n + 1 ≡ k = sym (ap (λ (y : Misfit). y.at) j) ∙ i in
         omega arith
 
@@ -93,13 +93,13 @@ module _ (name : List ℕ) (st : State) (e : Entry) where
       let r = misfit_from name (st.seen + 1) es m in
       ap (λ (o : Outcome). or_refused o st.seen x) (alike-fitting r.at r.position i (misfit-later name (st.seen + 1) es m z (st.seen + 1) (omega arith) (omega arith)))
       ∙ (ap (or_refused (entry_fault name st e) st.seen) (h refl) ∙ sym (behind-or (entry_fault name st e) st.seen y end))
-  turn es m x y end (Fails q p) z i h =
-      let f : q ≡ 4 = slot-four e.slot (filled name e) q p i in
-      let r : Misfit = record { at = st.seen + 1; position = p } in
-      let j : misfit_from name (st.seen + 1) es (or_misfit m (st.seen + 1) (Fails q p)) ≡ r = rw (eq-eqb m.at 0 z) (misfit-stays name (st.seen + 1) es r (λ t. let u : st.seen + 1 ≡ 0 = t in omega arith)) in
+  turn es m x y end (Err why) z i h =
+      let f : why.number ≡ 4 = slot-four e.slot (filled name e) why.number why.position i in
+      let r : Misfit = record { at = st.seen + 1; position = why.position } in
+      let j : misfit_from name (st.seen + 1) es (or_misfit m (st.seen + 1) (Err why)) ≡ r = rw (eq-eqb m.at 0 z) (misfit-stays name (st.seen + 1) es r (λ t. let u : st.seen + 1 ≡ 0 = t in omega arith)) in
       ap (λ (w : Misfit). or_refused (lenient_fault name w.at w.position st (filled name e)) st.seen x) j
-      ∙ (ap (λ (o : Outcome). or_refused o st.seen x) (alike-misfit p (rw f at i))
-      ∙ (rw i (misfit-ends (char_fault (first_bad (filled name e))) q p st.seen (kept_fault name st (filled name e)) x (behind_faults y end)) ∙ sym (behind-or (entry_fault name st e) st.seen y end)))
+      ∙ (ap (λ (o : Outcome). or_refused o st.seen x) (alike-misfit why.position (rw f at i))
+      ∙ (rw i (misfit-ends (char_fault (first_bad (filled name e))) why.number why.position st.seen (kept_fault name st (filled name e)) x (behind_faults y end)) ∙ sym (behind-or (entry_fault name st e) st.seen y end)))
 
 -- The lenient judgement of records, none of them a misfit so far: their first fault, and else how they end.
 pub leniently : (name : List ℕ) (st : State) (es : List Entry) (m : Misfit) → m.at ≡ 0 → lenient_from name (misfit_from name st.seen es m).at (misfit_from name st.seen es m).position st (filled_all name es) ≡ behind_faults (entries_fault name st es) (ended (state_after st (filled_all name es)))

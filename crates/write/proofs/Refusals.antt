@@ -1,4 +1,5 @@
 -- When a sheet is refused and with what, and when its flow is written; a refusal leaves the room.
+use Rattle.std.specs.Prelude.{Err}
 use Prim.Native.Nat.{ℕ, ◌+◌, ◌*◌}
 use mathlib.Core.Path.{◌≡◌, refl, sym, ap, ◌∙◌}
 use mathlib.Core.Bool.{Bool, true, false, cond, false≢true}
@@ -55,10 +56,10 @@ module _ (sheet room : List ℕ) where
           Way sheet room (cond a (Refused 25 0 0) (cond b (Refused 1 0 0) (after_faults l (cond f (Written (length es * 120)) (Refused 23 0 0)))))
       go true b l f p q s t = refused (ShortRoom i (ltb-true _ _ p) refl) (λ z. omega arith)
       go false true l f p q s t = refused (ManyRecords i (ltb-false _ _ p) (ltb-true _ _ q) refl) (λ z. omega arith)
-      go false false (Kept.Refused n r u) f p q s t =
+      go false false (Err why) f p q s t =
           let h = first-told name start_state es s in
-          let e : r ≡ h.0 = omega (arith, h.1) in
-          let w : FirstEntryFault name start_state es n r u = rw e h.2 in
+          let e : why.«record» ≡ h.0 = omega (arith, h.1) in
+          let w : FirstEntryFault name start_state es why.number why.«record» why.position = rw e h.2 in
           refused (FaultyRecord (record { a-sheet = i; long-enough = ltb-false _ _ p; few = ltb-false _ _ q }) w) (fault-above name _ h.2.here h.2.fails)
       go false false Kept.Passed true p q s t = written (record { tried = record { a-sheet = i; long-enough = ltb-false _ _ p; few = ltb-false _ _ q }; passes = each-passes name start_state es s; fits = t })
       go false false Kept.Passed false p q s t = refused (NoFit (record { a-sheet = i; long-enough = ltb-false _ _ p; few = ltb-false _ _ q }) (each-passes name start_state es s) t refl) (λ z. omega arith)

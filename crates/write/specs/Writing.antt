@@ -22,7 +22,7 @@ use Rattle.write.specs.Answers.{Writing, Written, Refused}
 -- the refusal of an answer; a flow that is written has none
 abbrev pub refusal_written : Writing → Refusal
 refusal_written (Written n) = no_refusal
-refusal_written (Err why) = refusal why.number why.«record» why.position
+refusal_written (Err why) = why
 
 -- the name in the head, with which a sheet begins
 abbrev pub name_in : List ℕ → List ℕ

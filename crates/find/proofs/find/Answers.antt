@@ -3,6 +3,7 @@
 use Rattle.find.proofs.Search.{found-refused, found-no-section, found-sought}
 use Prim.Native.Nat.{ℕ}
 use Rattle.order.specs.Stages.{stage_at, at_start}
+use Rattle.refusal.proofs.Handed.{handed_on}
 use Rattle.judge.specs.Flow.{records_of}
 use Rattle.find.specs.Line.{line_from, or_absent, found_in}
 use Rattle.judge.proofs.Accepted.{accepted-means-no-fault}
@@ -13,24 +14,24 @@ use borrow.Author.Tests.{eq-eqb, ne_eqb}
 use mathlib.Core.Path.{◌≡◌, sym, ap, ◌∙◌}
 use borrow.Enum.Refused.{opened}
 use Rattle.find.proofs.find.Goals as goal
-use Rattle.find.proofs.find.Goals.{In-Line, In_default}
+use Rattle.find.proofs.find.Goals.{In-Line, In_ok-judge}
 
-accepted : (c : In_default) → (judged c.args.flow.now).verdict ≡ Accepted
-accepted c = ap (λ (j : Judgement). j.verdict) (sym c.judge-judgement.ensures) ∙ c.in_default.is
+accepted : (c : In_ok-judge) → (judged c.args.flow.now).verdict ≡ Accepted
+accepted c = ap (λ (j : Judgement). j.verdict) (sym c.judge.ensures) ∙ c.in_ok-judge.was
 
 -- the subtype is that of a section's lines
 searched : (c : In-Line) (k : ℕ) → k ≡ line_from c.args.delega c.in-Line.section c.args.nth (stage_at at_start 0 0) 0 0 (records_of c.args.flow.now) → found_in c.args.flow.now c.args.delega c.args.subtype c.args.nth ≡ or_absent k
 searched c k e =
-    found-sought _ _ _ _ (accepted (goal.at.line_in-k-requires c).In_default) _ (sym c.section_kind.ensures ∙ c.in-Line.is) ∙ ap or_absent (sym e)
+    found-sought _ _ _ _ (accepted (goal.at.line_in-k-requires c).In_ok-judge) _ (sym c.section_kind.ensures ∙ c.in-Line.is) ∙ ap or_absent (sym e)
 
-pub returns-in-Refused : goal.returns-in-Refused
-returns-in-Refused c = sym (found-refused _ _ _ _ (ap (λ (j : Judgement). j.verdict) (sym c.judge-judgement.ensures) ∙ c.in-Refused.is))
+pub returns-in_err-judge : goal.returns-in_err-judge
+returns-in_err-judge c = handed_on c.from_residual.result c.from_residual.ensures ∙ sym (found-refused _ _ _ _ (ap (λ (j : Judgement). j.verdict) (sym c.judge.ensures) ∙ c.in_err-judge.was))
 
-pub returns-in_default-section_kind : goal.returns-in_default-section_kind
-returns-in_default-section_kind c = sym (found-no-section _ _ _ _ (accepted (goal.at.returns-in_default-section_kind c).In_default) _ c.section_kind.ensures (opened c.in_default-section_kind.in_default-section_kind-own.keys2))
+pub returns-in_default : goal.returns-in_default
+returns-in_default c = sym (found-no-section _ _ _ _ (accepted (goal.at.returns-in_default c).In_ok-judge) _ c.section_kind.ensures (opened c.in_default.in_default-own.keys2))
 
 pub line_in-k-requires : goal.line_in-k-requires
-line_in-k-requires c = (accepted-means-no-fault _ (accepted (goal.at.line_in-k-requires c).In_default)).whole.short
+line_in-k-requires c = (accepted-means-no-fault _ (accepted (goal.at.line_in-k-requires c).In_ok-judge)).whole.short
 
 pub returns-then-k-eq0 : goal.returns-then-k-eq0
 returns-then-k-eq0 c = sym (searched (goal.at.returns-then-k-eq0 c).In-Line _ c.line_in-k.ensures ∙ rw (eq-eqb _ _ c.if-k-eq0.true))
