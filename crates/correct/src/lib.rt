@@ -8,15 +8,8 @@ ghost use Rattle.rebalance.specs.Rebalance.{refreshed};
 ghost use Rattle.correct.specs.Correction.{section_of, replaced, outcome_of, weighed, tried, bytes_after, correction_of, corrected_bytes};
 ghost use Rattle.correct.specs.Writing.{amounts_put, Room, Fifteen, KthLine};
 
-use find::Found;
 use layout::{Amount, Flow, Kind};
-
-// The answer: made, or the refusal.
-#[derive(Clone, Copy)]
-pub enum Correction {
-    Made,
-    Refused(u64, usize, usize),
-}
+use refusal::Refusal;
 
 // The section whose lines have a subtype; past the table where there is none.
 fn section_of(subtype: u64) -> usize
@@ -63,16 +56,16 @@ fn put_back(
 }
 
 // 14, then 23: what a flow whose line has been replaced is answered.
-fn outcome(negative: bool, fits: bool) -> Correction
+fn outcome(negative: bool, fits: bool) -> Result<(), Refusal>
     ensures { result ≡ outcome_of negative fits }
 {
     if negative {
-        return Correction::Refused(14, 0, 0);
+        return Err(Refusal::NEGATIVE_DELEGA);
     }
     if fits {
-        return Correction::Made;
+        return Ok(());
     }
-    Correction::Refused(23, 0, 0)
+    Err(Refusal::NO_FIT)
 }
 
 // Replaces a line's amounts, and works everything out afresh; or, where a delega turns negative or a value does not fit, puts them back.
@@ -82,7 +75,7 @@ fn replace(
     credit_at: usize,
     debit: u64,
     credit: u64,
-) -> Correction
+) -> Result<(), Refusal>
     requires { Whole flow.old × Room flow.old debit_at credit_at × Fifteen debit × Fifteen credit }
     ensures { (result ≡ weighed (amounts_put debit_at credit_at debit credit flow.old))
         × (flow.new ≡ bytes_after result (refreshed (amounts_put debit_at credit_at debit credit flow.old)) flow.old) }
@@ -92,7 +85,7 @@ fn replace(
     put_amounts(&mut *flow, debit_at, credit_at, debit, credit);
     let surveyed = rebalance::survey(flow);
     let answer = outcome(surveyed.negative, surveyed.fits);
-    if let Correction::Made = answer {
+    if let Ok(()) = answer {
         rebalance::rebalance(&mut *flow);
         return answer;
     }
@@ -101,16 +94,16 @@ fn replace(
 }
 
 // 22, 9, 14 and 23, of new amounts for the k-th record, a line of section s.
-fn try_line(flow: &mut [u8], k: usize, s: usize, debit: u64, credit: u64) -> Correction
+fn try_line(flow: &mut [u8], k: usize, s: usize, debit: u64, credit: u64) -> Result<(), Refusal>
     requires { Whole flow.old × KthLine flow.old k s }
     ensures { (result ≡ tried k s debit credit flow.old)
         × (flow.new ≡ bytes_after result (refreshed (replaced k s debit credit flow.old)) flow.old) }
 {
     if Amount::LARGEST < debit {
-        return Correction::Refused(22, 0, 0);
+        return Err(Refusal::LARGE_AMOUNT);
     }
     if Amount::LARGEST < credit {
-        return Correction::Refused(22, 0, 0);
+        return Err(Refusal::LARGE_AMOUNT);
     }
     if amounts::line_right(s, debit, credit) {
         let section = layout::section_at(s);
@@ -123,10 +116,10 @@ fn try_line(flow: &mut [u8], k: usize, s: usize, debit: u64, credit: u64) -> Cor
             credit,
         );
     }
-    Correction::Refused(9, 0, 0)
+    Err(Refusal::UNFIT_AMOUNTS)
 }
 
-// Corrects one line of a flow: the delega's number, the subtype, the place in the section, and the new debit and credit.
+// Corrects one line of a flow: the delega's number, the subtype, the place in the section, and the new debit and credit. It is made, or the answer is the refusal.
 pub fn correct(
     flow: &mut [u8],
     delega: u64,
@@ -134,12 +127,10 @@ pub fn correct(
     nth: u64,
     debit: u64,
     credit: u64,
-) -> Correction
+) -> Result<(), Refusal>
     ensures { (result ≡ correction_of flow.old delega subtype nth debit credit)
         × (flow.new ≡ corrected_bytes flow.old delega subtype nth debit credit) }
 {
-    match find::find(flow, delega, subtype, nth) {
-        Found::At(k) => try_line(&mut *flow, k, section_of(subtype), debit, credit),
-        Found::Refused(number, record, position) => Correction::Refused(number, record, position),
-    }
+    let k = find::find(flow, delega, subtype, nth)?;
+    try_line(&mut *flow, k, section_of(subtype), debit, credit)
 }

@@ -6,14 +6,7 @@ ghost use Rattle.close.specs.Closing.{spaced};
 ghost use Rattle.dropping.specs.Dropping.{shortened, weighed, flow_by, dropping_of, dropped_flow};
 ghost use Rattle.dropping.specs.Inner.{Judged, Droppable};
 
-use judge::Verdict;
-
-// The answer: dropped, with the new length of the flow; or the refusal.
-#[derive(Clone, Copy)]
-pub enum Dropping {
-    Dropped(usize),
-    Refused(u64, usize, usize),
-}
+use refusal::Refusal;
 
 // Closes a flow up over the deleghe that a list names, and sets its tail. The answer is the new length; spaces stand behind it.
 fn shorten(flow: &mut [u8], numbers: &[u64]) -> usize
@@ -28,7 +21,7 @@ fn shorten(flow: &mut [u8], numbers: &[u64]) -> usize
 
 // 21, then 28, of an accepted flow that has so many deleghe; else they are dropped. With each number that of a delega and named once, none is left where there are as
 // many numbers as deleghe.
-fn weigh(flow: &mut [u8], numbers: &[u64], deleghe: u64) -> Dropping
+fn weigh(flow: &mut [u8], numbers: &[u64], deleghe: u64) -> Result<usize, Refusal>
     requires { Judged flow.old deleghe }
     ensures { (result ≡ weighed deleghe flow.old numbers.now)
         × (flow.new ≡ flow_by result (spaced (shortened flow.old numbers.now) (length flow.old)) flow.old) }
@@ -36,24 +29,21 @@ fn weigh(flow: &mut [u8], numbers: &[u64], deleghe: u64) -> Dropping
     let once = close::each_once(numbers, deleghe);
     let all = numbers.len() as u64 == deleghe;
     if !once {
-        return Dropping::Refused(21, 0, 0);
+        return Err(Refusal::NO_SUCH_LINE);
     }
     if all {
-        return Dropping::Refused(28, 0, 0);
+        return Err(Refusal::NO_DELEGA_LEFT);
     }
-    Dropping::Dropped(shorten(&mut *flow, numbers))
+    Ok(shorten(&mut *flow, numbers))
 }
 
-// Drops the deleghe that a list names from a flow: the flow is closed up over them, the rest are numbered from 1, the tail is set, and spaces fill the room behind it.
-pub fn drop_deleghe(flow: &mut [u8], numbers: &[u64]) -> Dropping
+// Drops the deleghe that a list names from a flow: the flow is closed up over them, the rest are numbered from 1, the tail is set, and spaces fill the room behind it. The answer is the new
+// length of the flow, or the refusal.
+pub fn drop_deleghe(flow: &mut [u8], numbers: &[u64]) -> Result<usize, Refusal>
     ensures { (result ≡ dropping_of flow.old numbers.now)
         × (flow.new ≡ dropped_flow flow.old numbers.now) }
 {
     let judgement = judge::judge(flow);
-    let verdict = judgement.verdict;
-    if let Verdict::Refused(number, at, position) = verdict {
-        return Dropping::Refused(number, at, position);
-    }
-    let summary = judgement.summary;
-    weigh(&mut *flow, numbers, summary.deleghe)
+    judgement.verdict?;
+    weigh(&mut *flow, numbers, judgement.summary.deleghe)
 }

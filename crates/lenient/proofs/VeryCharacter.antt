@@ -7,6 +7,7 @@ use mathlib.Core.Logic.{◌↔◌}
 use native.Mathlib.Omega.{arith}
 use lib.Dec.{eqb}
 use lib.ListN.{length}
+use Rattle.refusal.proofs.Parts.{fails-parts}
 use Rattle.text.specs.Answers.{Allowed}
 use Rattle.text.specs.Characters.{first_bad}
 use Rattle.layout.specs.Kinds.{type_in, kind_in}
@@ -31,7 +32,7 @@ unfolding misfit_fault
 no-seven-misfit m p n q = go (eqb m (n + 1))
   where
     go : (b : Bool) → cond b (Fails 4 p) Pass ≡ Fails 7 q → ⊥
-    go true e = let z : ◌≡◌ {A = ℕ} 4 7 = cc in omega arith
+    go true e = let z : ◌≡◌ {A = ℕ} 4 7 = (fails-parts e).0 in omega arith
     go false e = let z : ◌≡◌ {A = ℕ} 0 1 = cc in omega arith
 
 module _ (name : List ℕ) (st : State) (r : List ℕ) (l : length r ≡ 120) where

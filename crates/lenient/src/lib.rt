@@ -11,18 +11,11 @@ ghost use Rattle.rebalance.specs.Rebalance.{kept_fields};
 ghost use Rattle.lenient.specs.Lenient.{ended, lenient_from};
 ghost use Rattle.lenient.specs.Inner.{kept_of, lenient_of};
 
-use amounts::{Outcome, Sums};
+use amounts::Sums;
 use layout::{Flow, Kind, Part, Position};
 use order::Stage;
+use refusal::{Fault, Refusal};
 use rules::State;
-use text::Digits;
-
-// The answer: no fault among the checks that stay, or the refusal.
-#[derive(Clone, Copy)]
-pub enum Lenient {
-    Passed,
-    Refused(u64, usize, usize),
-}
 
 // How many numeric fields of a record are not stored. They are its first ones.
 fn kept_count(k: Kind) -> usize
@@ -54,8 +47,11 @@ fn digits_fault(rec: &[u8], kind: Kind) -> Result<(), Fault>
     while f < count {
         let field = list[f];
         let said = records::read_field(rec, field);
-        let Digits::Number(_) = said else {
-            return Err(Fault { number: 7, position: records::non_digit_at(field, said) });
+        let Ok(_) = said else {
+            return Err(Fault {
+                number: 7,
+                position: records::non_digit_at(field, said),
+            });
         };
         f += 1;
     }
@@ -70,9 +66,8 @@ fn first_value(rec: &[u8], kind: Kind) -> u64
     let fields = layout::fields_of(kind);
     let list = fields.fields;
     match records::read_field(rec, list[0]) {
-        Digits::Number(v) => v,
-        Digits::NonDigit(_) => 0,
-        Digits::TooLong => 0,
+        Ok(v) => v,
+        Err(_) => 0,
     }
 }
 
@@ -81,7 +76,10 @@ fn negative_fault(t: Sums) -> Result<(), Fault>
     ensures { result ≡ negative_fault t }
 {
     if t.debit < t.credit {
-        return Err(Fault { number: 14, position: Position::TYPE });
+        return Err(Fault {
+            number: 14,
+            position: Position::TYPE,
+        });
     }
     Ok(())
 }
@@ -94,7 +92,10 @@ fn tail_fault(name: &[u8], rec: &[u8]) -> Result<(), Fault>
     if amounts::same_bytes(&rec[Part::SUPPORT_NAME..Part::SUPPORT_NAME_END], name) {
         return Ok(());
     }
-    Err(Fault { number: 16, position: Position::SUPPORT_NAME })
+    Err(Fault {
+        number: 16,
+        position: Position::SUPPORT_NAME,
+    })
 }
 
 // Checks 9, 14, 16, 17 and 26: what is judged beside the stored fields.
@@ -148,26 +149,33 @@ fn record_fault(
 {
     records::char_fault(rec)?;
     if misfit == st.seen + 1 {
-        return Err(Fault { number: 4, position: position });
+        return Err(Fault {
+            number: 4,
+            position,
+        });
     }
     kept_fault(st, name, rec, kind)
 }
 
 // All records have passed: no refusal after EF, else refusal 5.
-fn ended(st: State) -> Lenient
+fn ended(st: State) -> Result<(), Refusal>
     requires { st.seen < 1000 }
     ensures { result ≡ ended st }
 {
     let stage = st.stage;
     if stage.phase == Stage::TAIL {
-        return Lenient::Passed;
+        return Ok(());
     }
-    Lenient::Refused(5, st.seen + 1, 0)
+    Err(Refusal {
+        number: 5,
+        record: st.seen + 1,
+        position: 0,
+    })
 }
 
-// The lenient judgement of a flow of whole records. The record whose number is `misfit`, where that is not 0, is known to stand in a place of another kind, and is
+// The lenient judgement of a flow of whole records: the refusal by the checks that stay, or none. The record whose number is `misfit`, where that is not 0, is known to stand in a place of another kind, and is
 // refused with 4 at that position.
-pub fn judge_kept(flow: &[u8], misfit: usize, position: usize) -> Lenient
+pub fn judge_kept(flow: &[u8], misfit: usize, position: usize) -> Result<(), Refusal>
     requires { Whole flow.now }
     ensures { result ≡ lenient_from (head_name_of flow.now) misfit position start_state (records_of flow.now) }
 {
@@ -177,8 +185,8 @@ pub fn judge_kept(flow: &[u8], misfit: usize, position: usize) -> Lenient
     while st.seen < count {
         let rec = records::record_at(flow, st.seen * Flow::RECORD);
         let kind = records::kind_in(rec);
-        if let Outcome::Fault(number, at) = record_fault(st, name, rec, kind, misfit, position) {
-            return Lenient::Refused(number, st.seen + 1, at);
+        if let Err(fault) = record_fault(st, name, rec, kind, misfit, position) {
+            return Err(fault.in_record(st.seen + 1));
         }
         st = rules::next_state(st, kind, records::line_sums(rec, kind));
     }

@@ -9,18 +9,11 @@ ghost use Rattle.mend.specs.Mending.{remaining, listed_in, weighed, flow_by, lis
 ghost use Rattle.mend.specs.Inner.{Copied};
 
 use layout::Flow;
-use lenient::Lenient;
-
-// The answer: rebalanced, with the number of fields that changed; or the refusal.
-#[derive(Clone, Copy)]
-pub enum Mending {
-    Mended(usize),
-    Refused(u64, usize, usize),
-}
+use refusal::Refusal;
 
 // Rebalances the copy of a flow, and where the list has room for all that changes, writes the list and the flow. The fields are counted first, with a list of no
 // room, so that a list which is too short stays as it came.
-fn replace(flow: &mut [u8], copy: &mut [u8], list: &mut [u64]) -> Mending
+fn replace(flow: &mut [u8], copy: &mut [u8], list: &mut [u64]) -> Result<usize, Refusal>
     requires { Copied flow.old copy.old }
     ensures { (result ≡ listed_in (length list.old) (length (changes_of flow.old)))
         × (flow.new ≡ flow_by result (refreshed flow.old) flow.old)
@@ -30,15 +23,15 @@ fn replace(flow: &mut [u8], copy: &mut [u8], list: &mut [u64]) -> Mending
     let mut none = [0u64; 0];
     let count = changes::list_changes(flow, copy, &mut none);
     if list.len() / 2 < count {
-        return Mending::Refused(27, 0, 0);
+        return Err(Refusal::SHORT_LIST);
     }
     changes::list_changes(flow, copy, &mut *list);
     text::put_part(&mut *flow, 0, copy);
-    Mending::Mended(count)
+    Ok(count)
 }
 
 // 23, then 27, of a flow of whole records. It is worked out in memory of the call's own, so that a refusal leaves the flow as it came.
-fn weigh(flow: &mut [u8], list: &mut [u64]) -> Mending
+fn weigh(flow: &mut [u8], list: &mut [u64]) -> Result<usize, Refusal>
     requires { Whole flow.old }
     ensures { (result ≡ weighed (length list.old) flow.old)
         × (flow.new ≡ flow_by result (refreshed flow.old) flow.old)
@@ -51,35 +44,33 @@ fn weigh(flow: &mut [u8], list: &mut [u64]) -> Mending
         text::put_part(&mut copy, 0, flow);
         return replace(&mut *flow, &mut copy[..n], &mut *list);
     }
-    Mending::Refused(23, 0, 0)
+    Err(Refusal::NO_FIT)
 }
 
 // The first fault of a flow that no rewriting of its totals mends: 1 and 2 by its length, and then the lenient judgement of its records.
-pub fn first_remaining(flow: &[u8]) -> Lenient
+pub fn first_remaining(flow: &[u8]) -> Result<(), Refusal>
     ensures { result ≡ remaining flow.now }
 {
     let n = flow.len();
     if Flow::MOST_BYTES < n {
-        return Lenient::Refused(1, 0, 0);
+        return Err(Refusal::LONG_FLOW);
     }
     if n == 0 {
-        return Lenient::Refused(2, 0, 0);
+        return Err(Refusal::NO_WHOLE_RECORDS);
     }
     if n % Flow::RECORD != 0 {
-        return Lenient::Refused(2, 0, 0);
+        return Err(Refusal::NO_WHOLE_RECORDS);
     }
     lenient::judge_kept(flow, 0, 0)
 }
 
 // Rebalances a flow in place: every total, sign, balance, final balance and tail value is written from the lines, and each field that changes is listed by record
-// and start, two numbers of the list for each.
-pub fn mend(flow: &mut [u8], list: &mut [u64]) -> Mending
+// and start, two numbers of the list for each. The answer is the number of fields that changed, or the refusal.
+pub fn mend(flow: &mut [u8], list: &mut [u64]) -> Result<usize, Refusal>
     ensures { (result ≡ mending_of flow.old list.old)
         × (flow.new ≡ mended_flow flow.old list.old)
         × (list.new ≡ mended_list flow.old list.old) }
 {
-    match first_remaining(flow) {
-        Lenient::Passed => weigh(&mut *flow, &mut *list),
-        Lenient::Refused(number, at, position) => Mending::Refused(number, at, position),
-    }
+    first_remaining(flow)?;
+    weigh(&mut *flow, &mut *list)
 }

@@ -10,9 +10,8 @@ ghost use Rattle.sheet.specs.Slots.{slot_fault};
 ghost use Rattle.sheet.specs.Sheet.{entry, one_record, counted, lines_from, one_section, sections_from, one_delega, deleghe_from, sheet_of};
 ghost use Rattle.sheet.specs.Walk.{count_at, start_spot, beyond_by, or_misfit, Here, Enters, Follows};
 
-use amounts::Outcome;
 use layout::{Flow, Kind, Part};
-use text::Digits;
+use text::DigitsError;
 
 // The first record that is not of its slot's kind, counted from 1, and the position that is told; 0 where there is none.
 #[derive(Clone, Copy)]
@@ -27,13 +26,6 @@ pub struct Spot {
     pub at: usize,
     pub count: usize,
     pub misfit: Misfit,
-}
-
-// The end of a walk over a part of a sheet: a spot behind it, or that the bytes are no sheet.
-#[derive(Clone, Copy)]
-pub enum Walked {
-    NoSheet,
-    To(Spot),
 }
 
 // The spot n bytes further on.
@@ -54,11 +46,14 @@ fn or_misfit(so_far: Misfit, n: usize, slot: Kind, rec: &[u8]) -> Misfit
     requires { length rec.now ≡ 120 }
     ensures { result ≡ or_misfit so_far n (slot_fault slot rec.now) }
 {
-    let Outcome::Fault(_, position) = slots::slot_fault(slot, rec) else {
+    let Err(fault) = slots::slot_fault(slot, rec) else {
         return so_far;
     };
     if so_far.at == 0 {
-        return Misfit { at: n, position };
+        return Misfit {
+            at: n,
+            position: fault.position,
+        };
     }
     so_far
 }
@@ -93,124 +88,125 @@ fn enter(flow: &mut [u8], name: &[u8], spot: Spot, slot: Kind, d: u64, keyed: &[
 }
 
 // One record of the sheet, in a slot of delega d.
-fn record(sheet: &[u8], flow: &mut [u8], name: &[u8], spot: Spot, slot: Kind, d: u64) -> Walked
+fn record(
+    sheet: &[u8],
+    flow: &mut [u8],
+    name: &[u8],
+    spot: Spot,
+    slot: Kind,
+    d: u64,
+) -> Option<Spot>
     requires { Here sheet.now spot flow.old × (length name.now ≡ 20) × (d < 10_000_000) }
     ensures { Follows sheet.now name.now spot flow.old (one_record slot d (drop spot.at sheet.now)) result flow.new }
 {
     if sheet.len() - spot.at < Flow::RECORD {
-        return Walked::NoSheet;
+        return None;
     }
     let behind = beyond(spot, Flow::RECORD);
     let at = spot.at;
     let keyed = &sheet[at..at + Flow::RECORD];
-    Walked::To(enter(&mut *flow, name, behind, slot, d, keyed))
+    Some(enter(&mut *flow, name, behind, slot, d, keyed))
 }
 
 // n lines of section x.
-fn lines(sheet: &[u8], flow: &mut [u8], name: &[u8], spot: Spot, x: usize, d: u64, n: u64) -> Walked
+fn lines(
+    sheet: &[u8],
+    flow: &mut [u8],
+    name: &[u8],
+    spot: Spot,
+    x: usize,
+    d: u64,
+    n: u64,
+) -> Option<Spot>
     requires { Here sheet.now spot flow.old × (length name.now ≡ 20) × (d < 10_000_000) }
     ensures { Follows sheet.now name.now spot flow.old (lines_from x d n (drop spot.at sheet.now)) result flow.new }
 {
     let mut here = spot;
     let mut left = n;
     while 0 < left {
-        let Walked::To(behind) = record(sheet, &mut *flow, name, here, Kind::Line(x), d) else {
-            return Walked::NoSheet;
-        };
+        let behind = record(sheet, &mut *flow, name, here, Kind::Line(x), d)?;
         here = behind;
         left -= 1;
     }
-    Walked::To(here)
+    Some(here)
 }
 
 // A count in so many digits at a spot.
-fn count_at(sheet: &[u8], at: usize, width: usize) -> Digits
+fn count_at(sheet: &[u8], at: usize, width: usize) -> Result<u64, DigitsError>
     requires { (at ≤ length sheet.now) × (width ≤ 15) }
     ensures { result ≡ count_at width (drop at sheet.now) }
 {
     if sheet.len() - at < width {
-        return Digits::TooLong;
+        return Err(DigitsError::TooLong);
     }
     text::number(&sheet[at..at + width])
 }
 
 // The count and the lines of section x, and the balance record behind them.
-fn section(sheet: &[u8], flow: &mut [u8], name: &[u8], spot: Spot, x: usize, d: u64) -> Walked
+fn section(sheet: &[u8], flow: &mut [u8], name: &[u8], spot: Spot, x: usize, d: u64) -> Option<Spot>
     requires { Here sheet.now spot flow.old × (length name.now ≡ 20) × (d < 10_000_000) }
     ensures { Follows sheet.now name.now spot flow.old (counted 2 (drop spot.at sheet.now) (one_section x d)) result flow.new }
 {
-    let Digits::Number(n) = count_at(sheet, spot.at, 2) else {
-        return Walked::NoSheet;
+    let Ok(n) = count_at(sheet, spot.at, 2) else {
+        return None;
     };
     let behind = beyond(spot, 2);
-    let Walked::To(end) = lines(sheet, &mut *flow, name, behind, x, d, n) else {
-        return Walked::NoSheet;
-    };
+    let end = lines(sheet, &mut *flow, name, behind, x, d, n)?;
     if n == 0 {
-        return Walked::To(end);
+        return Some(end);
     }
     let made = slots::made_balance(x);
-    Walked::To(enter(&mut *flow, name, end, Kind::Balance(x), d, &made))
+    Some(enter(&mut *flow, name, end, Kind::Balance(x), d, &made))
 }
 
 // The five sections.
-fn sections(sheet: &[u8], flow: &mut [u8], name: &[u8], spot: Spot, d: u64) -> Walked
+fn sections(sheet: &[u8], flow: &mut [u8], name: &[u8], spot: Spot, d: u64) -> Option<Spot>
     requires { Here sheet.now spot flow.old × (length name.now ≡ 20) × (d < 10_000_000) }
     ensures { Follows sheet.now name.now spot flow.old (sections_from d 5 0 (drop spot.at sheet.now)) result flow.new }
 {
     let mut here = spot;
     let mut x: usize = 0;
     while x < 5 {
-        let Walked::To(behind) = section(sheet, &mut *flow, name, here, x, d) else {
-            return Walked::NoSheet;
-        };
+        let behind = section(sheet, &mut *flow, name, here, x, d)?;
         here = behind;
         x += 1;
     }
-    Walked::To(here)
+    Some(here)
 }
 
 // One delega: its records 10 and 20, its sections, its 50-01.
-fn delega(sheet: &[u8], flow: &mut [u8], name: &[u8], spot: Spot, d: u64) -> Walked
+fn delega(sheet: &[u8], flow: &mut [u8], name: &[u8], spot: Spot, d: u64) -> Option<Spot>
     requires { Here sheet.now spot flow.old × (length name.now ≡ 20) × (d < 10_000_000) }
     ensures { Follows sheet.now name.now spot flow.old (one_delega d (drop spot.at sheet.now)) result flow.new }
 {
-    let Walked::To(ten) = record(sheet, &mut *flow, name, spot, Kind::Taxpayer, d) else {
-        return Walked::NoSheet;
-    };
-    let Walked::To(twenty) = record(sheet, &mut *flow, name, ten, Kind::Domicile, d) else {
-        return Walked::NoSheet;
-    };
-    let Walked::To(lines) = sections(sheet, &mut *flow, name, twenty, d) else {
-        return Walked::NoSheet;
-    };
+    let ten = record(sheet, &mut *flow, name, spot, Kind::Taxpayer, d)?;
+    let twenty = record(sheet, &mut *flow, name, ten, Kind::Domicile, d)?;
+    let lines = sections(sheet, &mut *flow, name, twenty, d)?;
     record(sheet, &mut *flow, name, lines, Kind::Payment, d)
 }
 
 // n deleghe, numbered from 1.
-fn deleghe(sheet: &[u8], flow: &mut [u8], name: &[u8], spot: Spot, n: u64) -> Walked
+fn deleghe(sheet: &[u8], flow: &mut [u8], name: &[u8], spot: Spot, n: u64) -> Option<Spot>
     requires { Here sheet.now spot flow.old × (length name.now ≡ 20) × (n < 1000) }
     ensures { Follows sheet.now name.now spot flow.old (deleghe_from n 1 (drop spot.at sheet.now)) result flow.new }
 {
     let mut here = spot;
     let mut d: u64 = 0;
     while d < n {
-        let Walked::To(behind) = delega(sheet, &mut *flow, name, here, d + 1) else {
-            return Walked::NoSheet;
-        };
+        let behind = delega(sheet, &mut *flow, name, here, d + 1)?;
         here = behind;
         d += 1;
     }
-    Walked::To(here)
+    Some(here)
 }
 
 // The count of deleghe and the deleghe.
-fn counted_deleghe(sheet: &[u8], flow: &mut [u8], name: &[u8], spot: Spot) -> Walked
+fn counted_deleghe(sheet: &[u8], flow: &mut [u8], name: &[u8], spot: Spot) -> Option<Spot>
     requires { Here sheet.now spot flow.old × (length name.now ≡ 20) }
     ensures { Follows sheet.now name.now spot flow.old (counted 3 (drop spot.at sheet.now) (λ n. deleghe_from n 1)) result flow.new }
 {
-    let Digits::Number(n) = count_at(sheet, spot.at, 3) else {
-        return Walked::NoSheet;
+    let Ok(n) = count_at(sheet, spot.at, 3) else {
+        return None;
     };
     let behind = beyond(spot, 3);
     deleghe(sheet, &mut *flow, name, behind, n)
@@ -228,25 +224,19 @@ fn start() -> Spot
 }
 
 // The whole sheet, read into a flow. Its name is that of the head.
-pub fn read_sheet(sheet: &[u8], flow: &mut [u8]) -> Walked
+pub fn read_sheet(sheet: &[u8], flow: &mut [u8]) -> Option<Spot>
     requires { length flow.old ≡ 65520 }
     ensures { Follows sheet.now (bytes_of sheet.now support_name) start_spot flow.old (sheet_of sheet.now) result flow.new }
 {
     if sheet.len() < Flow::RECORD {
-        return Walked::NoSheet;
+        return None;
     }
     let name = &sheet[Part::SUPPORT_NAME..Part::SUPPORT_NAME_END];
-    let Walked::To(head) = record(sheet, &mut *flow, name, start(), Kind::Head, 0) else {
-        return Walked::NoSheet;
-    };
-    let Walked::To(all) = counted_deleghe(sheet, &mut *flow, name, head) else {
-        return Walked::NoSheet;
-    };
-    let Walked::To(end) = record(sheet, &mut *flow, name, all, Kind::Tail, 0) else {
-        return Walked::NoSheet;
-    };
+    let head = record(sheet, &mut *flow, name, start(), Kind::Head, 0)?;
+    let all = counted_deleghe(sheet, &mut *flow, name, head)?;
+    let end = record(sheet, &mut *flow, name, all, Kind::Tail, 0)?;
     if end.at == sheet.len() {
-        return Walked::To(end);
+        return Some(end);
     }
-    Walked::NoSheet
+    None
 }

@@ -4,8 +4,8 @@ ghost use Rattle.text.specs.Numbers.{digits_of};
 ghost use Rattle.amounts.specs.Names.{same_bytes};
 ghost use Rattle.sheet.specs.Slots.{type_text, subtype_text, slot_fault, made_balance};
 
-use amounts::Outcome;
 use layout::{Flow, Kind, Part, Position};
+use refusal::Fault;
 
 // The characters of the type of a kind.
 fn type_text(slot: Kind) -> [u8; 2]
@@ -64,9 +64,15 @@ pub fn slot_fault(slot: Kind, rec: &[u8]) -> Result<(), Fault>
         if subtype_fits(slot, rec) {
             return Ok(());
         }
-        return Err(Fault { number: 4, position: Position::SUBTYPE });
+        return Err(Fault {
+            number: 4,
+            position: Position::SUBTYPE,
+        });
     }
-    Err(Fault { number: 4, position: Position::TYPE })
+    Err(Fault {
+        number: 4,
+        position: Position::TYPE,
+    })
 }
 
 // The balance record that closes the lines of section x, before its number and its sums are filled: its type, the subtype that is decided for these lines, and

@@ -4,8 +4,8 @@
 ghost use Rattle.std.specs.Prelude.{◌≡◌};
 ghost use Rattle.walk.specs.Walk.{place_next, answer_at, place_after, step_at, HandedBack, walker_at, SteppedOn};
 
-use judge::Verdict;
 use layout::Flow;
+use refusal::Refusal;
 
 // Where a walk stands: the number of records shown.
 #[derive(Clone, Copy)]
@@ -26,18 +26,10 @@ impl WalkPlace {
     }
 }
 
-// The answer of a step: the number of the record shown, no more records, or the refusal of the flow.
-#[derive(Clone, Copy)]
-pub enum Answer {
-    Shown(usize),
-    NoMore,
-    Refused(u64, usize, usize),
-}
-
-// A step: its answer, and the place after it.
+// A step: its answer, the number of the record shown, none where there are no more, or the refusal of the flow; and the place after it.
 #[derive(Clone, Copy)]
 pub struct Step {
-    pub answer: Answer,
+    pub answer: Result<Option<usize>, Refusal>,
     pub next: WalkPlace,
 }
 
@@ -52,34 +44,32 @@ pub struct Walker<'a> {
 #[derive(Clone, Copy)]
 pub struct Stepped<'a> {
     pub part: &'a [u8],
-    pub answer: Answer,
+    pub answer: Result<Option<usize>, Refusal>,
     pub walker: Walker<'a>,
 }
 
 // The answer of a step from a place. The flow is judged first.
-fn answer_at(flow: &[u8], place: WalkPlace) -> Answer
+fn answer_at(flow: &[u8], place: WalkPlace) -> Result<Option<usize>, Refusal>
     ensures { result ≡ answer_at flow.now place }
 {
-    let judgement = judge::judge(flow);
-    let verdict = judgement.verdict;
-    if let Verdict::Refused(number, record, position) = verdict {
-        return Answer::Refused(number, record, position);
-    }
+    judge::judge(flow).verdict?;
     let shown = place.shown;
     if shown < flow.len() / Flow::RECORD {
-        return Answer::Shown(shown + 1);
+        return Ok(Some(shown + 1));
     }
-    Answer::NoMore
+    Ok(None)
 }
 
 // The place after an answer: the next one after a record shown, else the same.
-fn place_after(answer: Answer, place: WalkPlace) -> WalkPlace
+fn place_after(answer: Result<Option<usize>, Refusal>, place: WalkPlace) -> WalkPlace
     ensures { result ≡ place_after answer place }
 {
     match answer {
-        Answer::Shown(_) => place.next(),
-        Answer::NoMore => place,
-        Answer::Refused(_, _, _) => place,
+        Ok(shown) => match shown {
+            Some(_) => place.next(),
+            None => place,
+        },
+        Err(_) => place,
     }
 }
 
@@ -93,13 +83,15 @@ pub fn step_at(flow: &[u8], place: WalkPlace) -> Step
 }
 
 // The record that an answer shows, within the caller's own buffer; an empty part where it shows none.
-pub fn part_at(flow: &[u8], answer: Answer) -> &[u8]
+pub fn part_at(flow: &[u8], answer: Result<Option<usize>, Refusal>) -> &[u8]
     ensures { HandedBack flow.entry answer result }
 {
     match answer {
-        Answer::Shown(k) => judge::nth_record(flow, k),
-        Answer::NoMore => &flow[0..0],
-        Answer::Refused(_, _, _) => &flow[0..0],
+        Ok(shown) => match shown {
+            Some(k) => judge::nth_record(flow, k),
+            None => &flow[0..0],
+        },
+        Err(_) => &flow[0..0],
     }
 }
 

@@ -10,53 +10,40 @@ ghost use Rattle.write.specs.Writing.{writing_of, room_after, room_with};
 ghost use Rattle.write.specs.Settling.{settled_of};
 
 use layout::Flow;
-use lenient::Lenient;
-use sheet::{Misfit, Walked};
-
-// The answer: written, with the length of the flow; or the refusal.
-#[derive(Clone, Copy)]
-pub enum Writing {
-    Written(usize),
-    Refused(u64, usize, usize),
-}
+use refusal::Refusal;
+use sheet::Misfit;
 
 // Judges the records that were put together and, where nothing speaks against it, works out what is stored and copies the flow into the room.
-fn settle(flow: &mut [u8], misfit: Misfit, room: &mut [u8]) -> Writing
+fn settle(flow: &mut [u8], misfit: Misfit, room: &mut [u8]) -> Result<usize, Refusal>
     requires { Whole flow.old × (length flow.old ≤ length room.old) }
     ensures { (result ≡ settled_of flow.old misfit)
         × (room.new ≡ room_with result (flat (rebalanced start_state (records_of flow.old))) room.old) }
 {
-    if let Lenient::Refused(number, at, position) = lenient::judge_kept(
-        flow,
-        misfit.at,
-        misfit.position,
-    ) {
-        return Writing::Refused(number, at, position);
-    }
+    lenient::judge_kept(flow, misfit.at, misfit.position)?;
     let surveyed = rebalance::survey(flow);
     if surveyed.fits {
         rebalance::rebalance(&mut *flow);
         text::put_part(&mut *room, 0, flow);
-        return Writing::Written(flow.len());
+        return Ok(flow.len());
     }
-    Writing::Refused(23, 0, 0)
+    Err(Refusal::NO_FIT)
 }
 
-// Writes the flow of a sheet into the room. The records are put together in memory of the call's own, so that a refusal leaves the room as it came.
-pub fn write(sheet: &[u8], room: &mut [u8]) -> Writing
+// Writes the flow of a sheet into the room, and answers its length, or the refusal. The records are put together in memory of the call's own, so that a refusal leaves the room as it came.
+pub fn write(sheet: &[u8], room: &mut [u8]) -> Result<usize, Refusal>
     ensures { (result ≡ writing_of sheet.now room.old) × (room.new ≡ room_after sheet.now room.old) }
 {
     let mut flow = [0u8; Flow::MOST_BYTES];
-    let Walked::To(end) = sheet::read_sheet(sheet, &mut flow) else {
-        return Writing::Refused(24, 0, 0);
+    let Some(end) = sheet::read_sheet(sheet, &mut flow) else {
+        return Err(Refusal::NO_SHEET);
     };
     let count = end.count;
     // The room is divided, since a product of any count could wrap.
     if room.len() / Flow::RECORD < count {
-        return Writing::Refused(25, 0, 0);
+        return Err(Refusal::SHORT_ROOM);
     }
     if Flow::MOST_RECORDS < count {
-        return Writing::Refused(1, 0, 0);
+        return Err(Refusal::LONG_FLOW);
     }
     let misfit = end.misfit;
     settle(&mut flow[..count * Flow::RECORD], misfit, &mut *room)

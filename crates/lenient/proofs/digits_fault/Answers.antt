@@ -4,6 +4,7 @@ use mathlib.Core.List.{List}
 use native.Mathlib.Omega.{arith}
 use lib.ListN.{length, take, drop, get_or}
 use lib.Seq.{get_or-take}
+use Rattle.std.specs.Result.{is_err}
 use Rattle.text.specs.Answers.{Digits}
 use Rattle.text.specs.Numbers.{number_of}
 use Rattle.layout.specs.declared.Field.{Field}
@@ -16,7 +17,6 @@ use Rattle.records.specs.Reading.{non_digit_at}
 use Rattle.records.proofs.FieldByField.{non-digit-near, bad-on, bad-here, bad-end}
 use Rattle.rebalance.specs.Rebalance.{kept_fields}
 use Rattle.lenient.proofs.KeptFields.{kept-four, kept-listed, kept-within}
-use borrow.Enum.Refused.{opened}
 use Rattle.lenient.proofs.digits_fault.Goals as goal
 use Rattle.lenient.proofs.digits_fault.Goals.{After-read_field-said, At-loop-f, In-loop-f}
 
@@ -89,7 +89,7 @@ pub returns-in_default : goal.returns-in_default
 returns-in_default c =
     let r = (goal.at.returns-in_default c).After-read_field-said in
     let p = (goal.at.returns-in_default c).In-loop-f in
-    ap (Fails 7) (c.non_digit_at.ensures ∙ ap (λ (x : Field). non_digit_at x r.read_field-said.result) (field_is p)) ∙ sym (held (goal.at.returns-in_default c).At-loop-f ∙ bad-here _ _ _ (inside p) _ (read p _ r.read_field-said.ensures) (opened c.in_default.in_default-own.keys2))
+    ap (Fails 7) (c.non_digit_at.ensures ∙ ap (λ (x : Field). non_digit_at x r.read_field-said.result) (field_is p)) ∙ sym (held (goal.at.returns-in_default c).At-loop-f ∙ bad-here _ _ _ (inside p) _ (read p _ r.read_field-said.ensures) (ap is_err c.in_default.is))
 
 pub overflow_add-f : goal.overflow_add-f
 overflow_add-f c = omega (arith, in_four (goal.at.overflow_add-f c).In-loop-f)
@@ -101,7 +101,7 @@ pub loop-f-preserved : goal.loop-f-preserved
 loop-f-preserved c =
     let r = (goal.at.loop-f-preserved c).After-read_field-said in
     let p = (goal.at.loop-f-preserved c).In-loop-f in
-    p.loop-f.invariant ∙ bad-on _ _ _ (inside p) _ (sym (read p _ r.read_field-said.ensures) ∙ c.in-Number.is)
+    p.loop-f.invariant ∙ bad-on _ _ _ (inside p) _ (sym (read p _ r.read_field-said.ensures) ∙ c.in-Ok.is)
 
 pub returns : goal.returns
 returns c =

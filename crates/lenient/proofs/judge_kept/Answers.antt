@@ -3,6 +3,7 @@ use mathlib.Core.Path.{◌≡◌, sym, ap, ◌∙◌}
 use mathlib.Core.List.{List}
 use native.Mathlib.Omega.{arith}
 use lib.ListN.{length}
+use Rattle.std.specs.Prelude.{Err}
 use Rattle.rules.specs.declared.State.{State}
 use Rattle.rules.specs.Step.{next}
 use Rattle.records.proofs.Sizes.{record-sized}
@@ -55,13 +56,13 @@ record_fault-requires c =
     let d = t.below.deleghe-below in
     (t.sized, t.few, omega (arith, t.few))
 
-pub overflow_add-result : goal.overflow_add-result
-overflow_add-result c = omega (arith, (turn (goal.at.overflow_add-result c).After-record_at-rec).few)
+pub overflow_add-st : goal.overflow_add-st
+overflow_add-st c = omega (arith, (turn (goal.at.overflow_add-st c).After-record_at-rec).few)
 
-pub returns-in-Fault : goal.returns-in-Fault
-returns-in-Fault c =
-    let q = (goal.at.returns-in-Fault c).After-record_at-rec in
-    judging-refuses (flow q) _ _ (st q) (judging q) (more q) (r q) q.record_at-rec.ensures (sym (c.record_fault.ensures ∙ fault-by _ _ _ _ _ _ c.kind_in-kind.ensures) ∙ c.in-Fault.is)
+pub returns-in-Err : goal.returns-in-Err
+returns-in-Err c =
+    let q = (goal.at.returns-in-Err c).After-record_at-rec in
+    ap Err c.in_record.ensures ∙ judging-refuses (flow q) _ _ (st q) (judging q) (more q) (r q) q.record_at-rec.ensures (sym (c.record_fault.ensures ∙ fault-by _ _ _ _ _ _ c.kind_in-kind.ensures) ∙ c.in-Err.is)
 
 pub line_sums-requires : goal.line_sums-requires
 line_sums-requires c = (turn (goal.at.line_sums-requires c).After-record_at-rec).sized

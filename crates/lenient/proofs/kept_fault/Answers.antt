@@ -1,6 +1,7 @@
 -- `lenient::kept_fault` meets its contract: the checks one by one, each left by a return where it fails.
 -- What checks 4 and 6 said, and check 8.
 use mathlib.Core.Path.{◌≡◌, sym, ap, ◌∙◌}
+use Rattle.refusal.proofs.Handed.{handed_on}
 use Rattle.layout.specs.Kinds.{type_in}
 use Rattle.layout.specs.Fields.{delega_number, value_of}
 use Rattle.order.specs.Order.{standing}
@@ -18,26 +19,27 @@ counted : (c : After-number_fault) →
     let a = c.args in number_fault a.st.deleghe a.kind (value_of a.rec.now delega_number) ≡ c.number_fault.result
 counted c = sym (c.number_fault.ensures ∙ (ap (number_fault _ _) c.first_value-n.ensures ∙ first-number _ _ _))
 
-pub returns-in-Fault : goal.returns-in-Fault
+pub returns-in_err-standing_of : goal.returns-in_err-standing_of
 unfolding kept_of
-returns-in-Fault c = rw (stood (goal.at.returns-in-Fault c).After-standing_of ∙ c.in-Fault.is)
+returns-in_err-standing_of c =
+    rw (stood (goal.at.returns-in_err-standing_of c).After-standing_of ∙ c.in_err-standing_of.was) (handed_on c.from_residual.result c.from_residual.ensures)
 
-pub returns-in-Fault-digits_fault : goal.returns-in-Fault-digits_fault
+pub returns-in_err-digits_fault : goal.returns-in_err-digits_fault
 unfolding kept_of
-returns-in-Fault-digits_fault c =
+returns-in_err-digits_fault c =
     let d = c in
-    rw (stood (goal.at.returns-in-Fault-digits_fault c).After-standing_of ∙ d.in_default.is, ← d.digits_fault.ensures, c.in-Fault-digits_fault.is)
+    rw (stood (goal.at.returns-in_err-digits_fault c).After-standing_of ∙ d.in_ok-standing_of.was, ← d.digits_fault.ensures, c.in_err-digits_fault.was) (handed_on c.from_residual-in_err-digits_fault.result c.from_residual-in_err-digits_fault.ensures)
 
-pub returns-in-Fault-number_fault : goal.returns-in-Fault-number_fault
+pub returns-in_err-number_fault : goal.returns-in_err-number_fault
 unfolding kept_of
-returns-in-Fault-number_fault c =
-    let n = (goal.at.returns-in-Fault-number_fault c).After-number_fault in
+returns-in_err-number_fault c =
+    let n = (goal.at.returns-in_err-number_fault c).After-number_fault in
     let d = n in
-    rw (stood (goal.at.returns-in-Fault-number_fault c).After-standing_of ∙ d.in_default.is, ← d.digits_fault.ensures, n.in_default-digits_fault.is, counted n ∙ c.in-Fault-number_fault.is)
+    rw (stood (goal.at.returns-in_err-number_fault c).After-standing_of ∙ d.in_ok-standing_of.was, ← d.digits_fault.ensures, n.in_ok-digits_fault.was, counted n ∙ c.in_err-number_fault.was) (handed_on c.from_residual-in_err-number_fault.result c.from_residual-in_err-number_fault.ensures)
 
 pub returns : goal.returns
 unfolding kept_of
 returns c =
     let n = (goal.at.returns c).After-number_fault in
     let d = n in
-    rw (stood (goal.at.returns c).After-standing_of ∙ d.in_default.is, ← d.digits_fault.ensures, n.in_default-digits_fault.is, counted n ∙ c.in_default-number_fault.is) c.own_fault.ensures
+    rw (stood (goal.at.returns c).After-standing_of ∙ d.in_ok-standing_of.was, ← d.digits_fault.ensures, n.in_ok-digits_fault.was, counted n ∙ c.in_ok-number_fault.was) c.own_fault.ensures

@@ -3,11 +3,11 @@ use mathlib.Core.Path.{refl}
 use native.Mathlib.Omega.{arith}
 use Rattle.walk.proofs.part_at.Goals as goal
 
-pub returns-in-Shown : goal.returns-in-Shown
-returns-in-Shown c = rw c.in-Shown.is c.nth_record.ensures
+pub returns-in-Some : goal.returns-in-Some
+returns-in-Some c = rw (c.in-Ok.is, c.in-Some.is) c.nth_record.ensures
 
-pub returns-in-NoMore : goal.returns-in-NoMore
-returns-in-NoMore c = rw c.in-NoMore.is (refl, refl, omega arith)
+pub returns-in-None : goal.returns-in-None
+returns-in-None c = rw (c.in-Ok.is, c.in-None.is) (refl, refl, omega arith)
 
-pub returns-in-Refused : goal.returns-in-Refused
-returns-in-Refused c = rw c.in-Refused.is (refl, refl, omega arith)
+pub returns-in-Err : goal.returns-in-Err
+returns-in-Err c = rw c.in-Err.is (refl, refl, omega arith)
