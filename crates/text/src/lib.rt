@@ -101,7 +101,8 @@ pub fn number(part: &[u8]) -> Digits
         if !b.is_ascii_digit() {
             return Digits::NonDigit(i);
         }
-        n = n * 10 + u64::from(b - b'0');
+        // Widened before the difference, which saves an instruction a byte.
+        n = n * 10 + (u64::from(b) - 48);
     }
     Digits::Number(n)
 }
