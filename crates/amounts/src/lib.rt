@@ -17,6 +17,13 @@ pub struct Sums {
     pub credit: u64,
 }
 
+impl Sums {
+    pub const ZERO: Self = Sums {
+        debit: 0,
+        credit: 0,
+    };
+}
+
 // The first failed check of a record, its number and position, or none.
 #[derive(Clone, Copy)]
 pub enum Outcome {
