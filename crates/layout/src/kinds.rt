@@ -7,6 +7,7 @@ use crate::{Kind, Subtype};
 
 // A line: its section, and the subtype of the balance that closes it. A balance: its section. Sections count from 0, as in the table, with which this agrees on
 // every number (`decision-is-table`).
+#[tactic(auto, unfolding(crate::specs::Decision::decided))]
 fn decide(subtype: u64) -> Subtype
     ensures { result ≡ decided subtype }
 {
@@ -47,7 +48,6 @@ pub fn balance_of(subtype: u64) -> u64
 {
     match decide(subtype) {
         Subtype::OfLine(_, balance) => balance,
-        Subtype::OfBalance(_) => 0,
-        Subtype::NoSubtype => 0,
+        Subtype::OfBalance(_) | Subtype::NoSubtype => 0,
     }
 }
