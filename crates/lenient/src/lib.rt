@@ -29,16 +29,9 @@ fn kept_count(k: Kind) -> usize
     ensures { result ≡ length (kept_fields k) }
 {
     match k {
-        Kind::Head => 1,
-        Kind::Taxpayer => 1,
-        Kind::Domicile => 1,
         Kind::Line(_) => 3,
-        Kind::Balance(_) => 1,
-        Kind::Payment => 1,
-        Kind::Receipt => 1,
-        Kind::Addressee => 1,
-        Kind::Tail => 0,
-        Kind::Unknown => 0,
+        Kind::Tail | Kind::Unknown => 0,
+        _ => 1,
     }
 }
 
@@ -48,16 +41,11 @@ fn digits_fault(rec: &[u8], kind: Kind) -> Outcome
     ensures { result ≡ bad_fields (kept_fields kind) rec.now }
 {
     let fields = layout::fields_of(kind);
-    let list = fields.fields;
-    let count = kept_count(kind);
-    let mut f: usize = 0;
-    while f < count {
-        let field = list[f];
+    for &field in &fields.fields[..kept_count(kind)] {
         let said = records::read_field(rec, field);
         let Digits::Number(_) = said else {
             return Outcome::Fault(7, records::non_digit_at(field, said));
         };
-        f += 1;
     }
     Outcome::Pass
 }
@@ -68,8 +56,7 @@ fn first_value(rec: &[u8], kind: Kind) -> u64
     ensures { result ≡ value_of rec.now (get_or (fields_of kind) 0 nowhere) }
 {
     let fields = layout::fields_of(kind);
-    let list = fields.fields;
-    match records::read_field(rec, list[0]) {
+    match records::read_field(rec, fields.fields[0]) {
         Digits::Number(v) => v,
         Digits::NonDigit(_) => 0,
         Digits::TooLong => 0,
@@ -102,9 +89,6 @@ fn own_fault(st: State, name: &[u8], rec: &[u8], kind: Kind) -> Outcome
     requires { length rec.now ≡ 120 }
     ensures { result ≡ own_fault name.now st kind rec.now }
 {
-    let money = st.money;
-    let delega = money.delega;
-    let all = delega.all;
     match kind {
         Kind::Head => rules::head_record(rec, first_value(rec, kind)),
         Kind::Taxpayer => rules::code_fault(rules::has_code(rec)),
@@ -114,7 +98,7 @@ fn own_fault(st: State, name: &[u8], rec: &[u8], kind: Kind) -> Outcome
             amounts::line_fault(s, t.debit, t.credit)
         }
         Kind::Balance(_) => Outcome::Pass,
-        Kind::Payment => negative_fault(all),
+        Kind::Payment => negative_fault(st.money.delega.all),
         Kind::Receipt => Outcome::Pass,
         Kind::Addressee => Outcome::Pass,
         Kind::Tail => tail_fault(name, rec),
@@ -166,8 +150,7 @@ fn ended(st: State) -> Lenient
     requires { st.seen < 1000 }
     ensures { result ≡ ended st }
 {
-    let stage = st.stage;
-    if stage.phase == Stage::TAIL {
+    if st.stage.phase == Stage::TAIL {
         return Lenient::Passed;
     }
     Lenient::Refused(5, st.seen + 1, 0)
@@ -179,11 +162,9 @@ pub fn judge_kept(flow: &[u8], misfit: usize, position: usize) -> Lenient
     requires { Whole flow.now }
     ensures { result ≡ lenient_from (head_name_of flow.now) misfit position start_state (records_of flow.now) }
 {
-    let count = flow.len() / Flow::RECORD;
     let name = &flow[Part::SUPPORT_NAME..Part::SUPPORT_NAME_END];
     let mut st = rules::start();
-    while st.seen < count {
-        let rec = records::record_at(flow, st.seen * Flow::RECORD);
+    for rec in flow.chunks_exact(Flow::RECORD) {
         let kind = records::kind_in(rec);
         if let Outcome::Fault(number, at) = record_fault(st, name, rec, kind, misfit, position) {
             return Lenient::Refused(number, st.seen + 1, at);
