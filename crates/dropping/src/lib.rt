@@ -21,7 +21,7 @@ fn shorten(flow: &mut [u8], numbers: &[u64]) -> usize
     ensures { (result ≡ length (shortened flow.old numbers.now))
         × (flow.new ≡ spaced (shortened flow.old numbers.now) (length flow.old)) }
 {
-    let n = close::close_up(&mut *flow, numbers);
+    let n = close::close_up(flow, numbers);
     rebalance::rebalance(&mut flow[..n]);
     n
 }
@@ -41,7 +41,7 @@ fn weigh(flow: &mut [u8], numbers: &[u64], deleghe: u64) -> Dropping
     if all {
         return Dropping::Refused(28, 0, 0);
     }
-    Dropping::Dropped(shorten(&mut *flow, numbers))
+    Dropping::Dropped(shorten(flow, numbers))
 }
 
 // Drops the deleghe that a list names from a flow: the flow is closed up over them, the rest are numbered from 1, the tail is set, and spaces fill the room behind it.
@@ -50,10 +50,8 @@ pub fn drop_deleghe(flow: &mut [u8], numbers: &[u64]) -> Dropping
         × (flow.new ≡ dropped_flow flow.old numbers.now) }
 {
     let judgement = judge::judge(flow);
-    let verdict = judgement.verdict;
-    if let Verdict::Refused(number, at, position) = verdict {
+    if let Verdict::Refused(number, at, position) = judgement.verdict {
         return Dropping::Refused(number, at, position);
     }
-    let summary = judgement.summary;
-    weigh(&mut *flow, numbers, summary.deleghe)
+    weigh(flow, numbers, judgement.summary.deleghe)
 }

@@ -26,14 +26,14 @@ fn replace(flow: &mut [u8], copy: &mut [u8], list: &mut [u64]) -> Mending
         × (flow.new ≡ flow_by result (refreshed flow.old) flow.old)
         × (list.new ≡ list_by result (changes_of flow.old) list.old) }
 {
-    rebalance::rebalance(&mut *copy);
+    rebalance::rebalance(copy);
     let mut none = [0u64; 0];
     let count = changes::list_changes(flow, copy, &mut none);
     if list.len() / 2 < count {
         return Mending::Refused(27, 0, 0);
     }
-    changes::list_changes(flow, copy, &mut *list);
-    text::put_part(&mut *flow, 0, copy);
+    changes::list_changes(flow, copy, list);
+    text::put_part(flow, 0, copy);
     Mending::Mended(count)
 }
 
@@ -44,12 +44,11 @@ fn weigh(flow: &mut [u8], list: &mut [u64]) -> Mending
         × (flow.new ≡ flow_by result (refreshed flow.old) flow.old)
         × (list.new ≡ list_by result (changes_of flow.old) list.old) }
 {
-    let surveyed = rebalance::survey(flow);
-    if surveyed.fits {
+    if rebalance::survey(flow).fits {
         let n = flow.len();
         let mut copy = [0u8; Flow::MOST_BYTES];
         text::put_part(&mut copy, 0, flow);
-        return replace(&mut *flow, &mut copy[..n], &mut *list);
+        return replace(flow, &mut copy[..n], list);
     }
     Mending::Refused(23, 0, 0)
 }
@@ -62,10 +61,7 @@ pub fn first_remaining(flow: &[u8]) -> Lenient
     if Flow::MOST_BYTES < n {
         return Lenient::Refused(1, 0, 0);
     }
-    if n == 0 {
-        return Lenient::Refused(2, 0, 0);
-    }
-    if n % Flow::RECORD != 0 {
+    if n == 0 || n % Flow::RECORD != 0 {
         return Lenient::Refused(2, 0, 0);
     }
     lenient::judge_kept(flow, 0, 0)
@@ -79,7 +75,7 @@ pub fn mend(flow: &mut [u8], list: &mut [u64]) -> Mending
         × (list.new ≡ mended_list flow.old list.old) }
 {
     match first_remaining(flow) {
-        Lenient::Passed => weigh(&mut *flow, &mut *list),
+        Lenient::Passed => weigh(flow, list),
         Lenient::Refused(number, at, position) => Mending::Refused(number, at, position),
     }
 }

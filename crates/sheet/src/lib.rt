@@ -41,11 +41,9 @@ fn beyond(spot: Spot, n: usize) -> Spot
     requires { spot.at + n ≤ 18_446_744_073_709_551_615 }
     ensures { result ≡ beyond_by spot n }
 {
-    let misfit = spot.misfit;
     Spot {
         at: spot.at + n,
-        count: spot.count,
-        misfit,
+        ..spot
     }
 }
 
@@ -70,7 +68,7 @@ fn put_record(flow: &mut [u8], count: usize, rec: &[u8])
         × (count < 546 → take (count * 120 + 120) flow.new ≡ take (count * 120) flow.old ++ rec.now) }
 {
     if count < Flow::MOST_RECORDS {
-        text::put_part(&mut *flow, count * Flow::RECORD, rec);
+        text::put_part(flow, count * Flow::RECORD, rec);
     }
 }
 
@@ -81,14 +79,13 @@ fn enter(flow: &mut [u8], name: &[u8], spot: Spot, slot: Kind, d: u64, keyed: &[
     ensures { Enters name.now spot flow.old (entry slot d keyed.now) result flow.new }
 {
     let rec = filled::filled_record(keyed, name, slot, d);
-    put_record(&mut *flow, spot.count, &rec);
-    let so_far = spot.misfit;
+    put_record(flow, spot.count, &rec);
     let count = spot.count + 1;
-    let misfit = or_misfit(so_far, count, slot, &rec);
+    let misfit = or_misfit(spot.misfit, count, slot, &rec);
     Spot {
-        at: spot.at,
         count,
         misfit,
+        ..spot
     }
 }
 
@@ -103,7 +100,7 @@ fn record(sheet: &[u8], flow: &mut [u8], name: &[u8], spot: Spot, slot: Kind, d:
     let behind = beyond(spot, Flow::RECORD);
     let at = spot.at;
     let keyed = &sheet[at..at + Flow::RECORD];
-    Walked::To(enter(&mut *flow, name, behind, slot, d, keyed))
+    Walked::To(enter(flow, name, behind, slot, d, keyed))
 }
 
 // n lines of section x.
@@ -112,13 +109,11 @@ fn lines(sheet: &[u8], flow: &mut [u8], name: &[u8], spot: Spot, x: usize, d: u6
     ensures { Follows sheet.now name.now spot flow.old (lines_from x d n (drop spot.at sheet.now)) result flow.new }
 {
     let mut here = spot;
-    let mut left = n;
-    while 0 < left {
-        let Walked::To(behind) = record(sheet, &mut *flow, name, here, Kind::Line(x), d) else {
+    for _ in 0..n {
+        let Walked::To(behind) = record(sheet, flow, name, here, Kind::Line(x), d) else {
             return Walked::NoSheet;
         };
         here = behind;
-        left -= 1;
     }
     Walked::To(here)
 }
@@ -143,14 +138,14 @@ fn section(sheet: &[u8], flow: &mut [u8], name: &[u8], spot: Spot, x: usize, d: 
         return Walked::NoSheet;
     };
     let behind = beyond(spot, 2);
-    let Walked::To(end) = lines(sheet, &mut *flow, name, behind, x, d, n) else {
+    let Walked::To(end) = lines(sheet, flow, name, behind, x, d, n) else {
         return Walked::NoSheet;
     };
     if n == 0 {
         return Walked::To(end);
     }
     let made = slots::made_balance(x);
-    Walked::To(enter(&mut *flow, name, end, Kind::Balance(x), d, &made))
+    Walked::To(enter(flow, name, end, Kind::Balance(x), d, &made))
 }
 
 // The five sections.
@@ -159,13 +154,11 @@ fn sections(sheet: &[u8], flow: &mut [u8], name: &[u8], spot: Spot, d: u64) -> W
     ensures { Follows sheet.now name.now spot flow.old (sections_from d 5 0 (drop spot.at sheet.now)) result flow.new }
 {
     let mut here = spot;
-    let mut x: usize = 0;
-    while x < 5 {
-        let Walked::To(behind) = section(sheet, &mut *flow, name, here, x, d) else {
+    for x in 0..5 {
+        let Walked::To(behind) = section(sheet, flow, name, here, x, d) else {
             return Walked::NoSheet;
         };
         here = behind;
-        x += 1;
     }
     Walked::To(here)
 }
@@ -175,16 +168,16 @@ fn delega(sheet: &[u8], flow: &mut [u8], name: &[u8], spot: Spot, d: u64) -> Wal
     requires { Here sheet.now spot flow.old × (length name.now ≡ 20) × (d < 10_000_000) }
     ensures { Follows sheet.now name.now spot flow.old (one_delega d (drop spot.at sheet.now)) result flow.new }
 {
-    let Walked::To(ten) = record(sheet, &mut *flow, name, spot, Kind::Taxpayer, d) else {
+    let Walked::To(ten) = record(sheet, flow, name, spot, Kind::Taxpayer, d) else {
         return Walked::NoSheet;
     };
-    let Walked::To(twenty) = record(sheet, &mut *flow, name, ten, Kind::Domicile, d) else {
+    let Walked::To(twenty) = record(sheet, flow, name, ten, Kind::Domicile, d) else {
         return Walked::NoSheet;
     };
-    let Walked::To(lines) = sections(sheet, &mut *flow, name, twenty, d) else {
+    let Walked::To(lines) = sections(sheet, flow, name, twenty, d) else {
         return Walked::NoSheet;
     };
-    record(sheet, &mut *flow, name, lines, Kind::Payment, d)
+    record(sheet, flow, name, lines, Kind::Payment, d)
 }
 
 // n deleghe, numbered from 1.
@@ -193,13 +186,11 @@ fn deleghe(sheet: &[u8], flow: &mut [u8], name: &[u8], spot: Spot, n: u64) -> Wa
     ensures { Follows sheet.now name.now spot flow.old (deleghe_from n 1 (drop spot.at sheet.now)) result flow.new }
 {
     let mut here = spot;
-    let mut d: u64 = 0;
-    while d < n {
-        let Walked::To(behind) = delega(sheet, &mut *flow, name, here, d + 1) else {
+    for d in 0..n {
+        let Walked::To(behind) = delega(sheet, flow, name, here, d + 1) else {
             return Walked::NoSheet;
         };
         here = behind;
-        d += 1;
     }
     Walked::To(here)
 }
@@ -213,7 +204,7 @@ fn counted_deleghe(sheet: &[u8], flow: &mut [u8], name: &[u8], spot: Spot) -> Wa
         return Walked::NoSheet;
     };
     let behind = beyond(spot, 3);
-    deleghe(sheet, &mut *flow, name, behind, n)
+    deleghe(sheet, flow, name, behind, n)
 }
 
 // A spot at the start of a sheet.
@@ -236,13 +227,13 @@ pub fn read_sheet(sheet: &[u8], flow: &mut [u8]) -> Walked
         return Walked::NoSheet;
     }
     let name = &sheet[Part::SUPPORT_NAME..Part::SUPPORT_NAME_END];
-    let Walked::To(head) = record(sheet, &mut *flow, name, start(), Kind::Head, 0) else {
+    let Walked::To(head) = record(sheet, flow, name, start(), Kind::Head, 0) else {
         return Walked::NoSheet;
     };
-    let Walked::To(all) = counted_deleghe(sheet, &mut *flow, name, head) else {
+    let Walked::To(all) = counted_deleghe(sheet, flow, name, head) else {
         return Walked::NoSheet;
     };
-    let Walked::To(end) = record(sheet, &mut *flow, name, all, Kind::Tail, 0) else {
+    let Walked::To(end) = record(sheet, flow, name, all, Kind::Tail, 0) else {
         return Walked::NoSheet;
     };
     if end.at == sheet.len() {

@@ -33,10 +33,9 @@ fn settle(flow: &mut [u8], misfit: Misfit, room: &mut [u8]) -> Writing
     ) {
         return Writing::Refused(number, at, position);
     }
-    let surveyed = rebalance::survey(flow);
-    if surveyed.fits {
-        rebalance::rebalance(&mut *flow);
-        text::put_part(&mut *room, 0, flow);
+    if rebalance::survey(flow).fits {
+        rebalance::rebalance(flow);
+        text::put_part(room, 0, flow);
         return Writing::Written(flow.len());
     }
     Writing::Refused(23, 0, 0)
@@ -58,6 +57,5 @@ pub fn write(sheet: &[u8], room: &mut [u8]) -> Writing
     if Flow::MOST_RECORDS < count {
         return Writing::Refused(1, 0, 0);
     }
-    let misfit = end.misfit;
-    settle(&mut flow[..count * Flow::RECORD], misfit, &mut *room)
+    settle(&mut flow[..count * Flow::RECORD], end.misfit, room)
 }
