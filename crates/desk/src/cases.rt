@@ -7,7 +7,7 @@ ghost use Rattle.desk.specs.Marks.{marks};
 use crate::messages::fail;
 use crate::output::print_bytes;
 use crate::reading::{fill, opened};
-use crate::{FIRST_MARK, Numbers};
+use crate::{CALL_HEADER, FIRST_MARK, Numbers};
 use args::Argument;
 use std::fs::File;
 use std::io::Read;
@@ -27,15 +27,29 @@ pub fn open_cases(rt: &HostRuntime, path: &[u8]) -> Option<File> {
     }
 }
 
-// Runs the cases of a file one after the other, until a step finds none left.
-pub fn run_cases<F: Fn(&HostRuntime, &mut File) -> bool>(rt: &HostRuntime, path: &[u8], step: F)
-    requires { F.IsAlwaysCallable step }
+// Runs the cases of a file one after the other, each read as `next_case` does below a header of so many bytes, until there is none left or a step finds its own not there.
+// A step is handed the file, where it reads what stands below the flow, the numbers of the call, which are zeros where the header has none, and the flow.
+pub fn run_cases<const ROOM: usize, F: Fn(&HostRuntime, &mut File, Numbers, &mut [u8]) -> bool>(
+    rt: &HostRuntime,
+    path: &[u8],
+    header: usize,
+    step: F,
+)
+    requires callable { F.IsAlwaysCallable step }
+    requires header_fits { header ≤ 153 }
+    requires room_fits { ROOM ≤ 200_000 }
 {
     let Some(mut cases) = open_cases(rt, path) else {
         return;
     };
     for _ in 0..MOST_CASES {
-        if !step(rt, &mut cases) {
+        let mut head = [0u8; CALL_HEADER];
+        // Kept: no heap: the flow lies in a room of fixed length, and beside it how much of it there is.
+        let mut room = [0u8; ROOM];
+        let Some(n) = next_case(rt, &mut cases, &mut head[..header], &mut room) else {
+            break;
+        };
+        if !step(rt, &mut cases, numbers_of(head), &mut room[..n]) {
             break;
         }
     }
@@ -149,7 +163,7 @@ pub fn read_next<R: Read>(cases: &mut R, room: &mut [u8], n: usize) -> bool
 
 // The next run case of a file: its header is put in `head`, its name is printed, and its flow is put in `room`. Answers how many bytes the flow has; none where
 // there is no further case.
-pub fn next_case<R: Read>(
+fn next_case<R: Read>(
     rt: &HostRuntime,
     cases: &mut R,
     head: &mut [u8],
@@ -162,9 +176,6 @@ pub fn next_case<R: Read>(
     }
     print_name(rt, head);
     let n = length_in(head);
-    if room.len() <= n {
-        return None;
-    }
     if !read_next(cases, &mut *room, n) {
         return None;
     }

@@ -17,8 +17,7 @@ pub use answers::{
     print_payments, print_record, print_refusal,
 };
 pub use cases::{
-    mark, next_case, numbers_of, open_cases, print_comparison, put_numbers, read_full, read_next,
-    run_cases,
+    mark, numbers_of, open_cases, print_comparison, put_numbers, read_full, read_next, run_cases,
 };
 pub use output::print_bytes;
 pub use reading::{LONGEST_NAME, Source, count_words, path_at, text_of, word_at};
@@ -41,6 +40,11 @@ pub struct Numbers {
     pub fourth: u64,
     pub fifth: u64,
 }
+
+// The header of a run case that has a name and a length, and of one that has the five numbers of a call between them.
+pub const FLOW_HEADER: usize = 48;
+
+pub const CALL_HEADER: usize = 153;
 
 // What stands in the list of a run case before the call: numbers that no call writes, each its own, so that one that moved, or that is told and not listed, is seen.
 pub const FIRST_MARK: u64 = 9_000_000_000;

@@ -41,12 +41,7 @@ fn end_line(rt: &HostRuntime, i: usize) {
     tell(rt, b"\n");
 }
 
-impl<'a> Command<'a> {
-    // The command of this name.
-    pub fn new(rt: &'a HostRuntime, name: &'a str) -> Command<'a> {
-        Command { rt, name }
-    }
-
+impl Command<'_> {
     // The start of a line on standard error: the command as a clerk types it.
     fn begin_line(&self) {
         let _ = eprint!(self.rt; "./f24 {}: ", self.name);

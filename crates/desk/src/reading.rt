@@ -3,6 +3,7 @@ ghost use Rattle.std.specs.Prelude.{◌≤◌, length, IfOk, IfSome};
 
 use crate::Command;
 use args::Argument;
+use layout::Flow;
 use std::env::FillError;
 use std::fs::File;
 use std::io::{Read, Stdin};
@@ -174,10 +175,15 @@ impl Command<'_> {
         self.read_open(word, &mut source, room)
     }
 
-    // Reads the flow that the i-th argument names, as `read_word` does.
-    pub fn read_flow(&self, i: usize, room: &mut [u8]) -> Option<usize>
-        ensures { IfSome result (λ n. n ≤ length room.old) }
+    // Reads the flow that the i-th argument names, as `read_word` does, and hands it to an act. The room holds one byte more than the longest flow, so that a longer one is
+    // refused.
+    pub fn with_flow<F: FnOnce(&mut [u8])>(&self, i: usize, act: F)
+        requires { F.IsAlwaysCallable act }
     {
-        self.read_word("FILE", i, room)
+        // Kept: no heap: the flow lies in a room of fixed length, and beside it how much of it there is.
+        let mut room = [0u8; Flow::MOST_BYTES + 1];
+        if let Some(n) = self.read_word("FILE", i, &mut room) {
+            act(&mut room[..n]);
+        }
     }
 }
