@@ -1,54 +1,38 @@
--- A turn of the loops over names, and what it is for bytes to be the same.
-use Prim.Native.Nat.{ℕ, suc, ◌+◌, ◌<◌, ◌≤◌}
-use mathlib.Core.Path.{◌≡◌, refl, ap, ap₂}
-use mathlib.Core.Bool.{Bool, true, false, cond, false≢true}
+-- What it is for bytes to be the same, and for a name to be right, by the tests that the library makes of all of them.
+use Prim.Native.Nat.{ℕ}
+use mathlib.Core.Path.{◌≡◌, refl, ap₂}
+use mathlib.Core.Bool.{Bool, true, false, cond, not, ◌&&◌, false≢true}
 use mathlib.Core.List.{List, [], ◌∷◌}
-use borrow.Author.Tests.{eq-eqb, ne_eqb, eqb-true}
-use lib.ListN.{length, drop, get_or, drop_of_length-le}
+use borrow.Author.Tests.{eq-eqb, eqb-true}
 use lib.Dec.{eqb}
-use Rattle.text.proofs.Bytes.{drop-one}
+use lib.Pointwise.{pointwise}
+use Rattle.std.specs.List.{list_all}
 use Rattle.amounts.specs.Names.{name_right, same_bytes}
 
-module _ (l : List ℕ) (i : ℕ) (h : i < length l) where
-  pub name-slash : get_or l i 0 ≡ 47 → name_right (drop i l) ≡ false
-  unfolding name_right
-  name-slash e = rw (drop-one l i h, eq-eqb _ _ e)
+-- the test of one byte of a name
+abbrev pub byte_right : ℕ → Bool
+byte_right b = cond (eqb b 47) false (not (eqb b 58))
 
-  pub name-colon : (get_or l i 0 ≡ 47 → ⊥) → get_or l i 0 ≡ 58 → name_right (drop i l) ≡ false
-  unfolding name_right
-  name-colon n e = rw (drop-one l i h, ne_eqb _ _ n, eq-eqb _ _ e)
-
-  pub name-on : (get_or l i 0 ≡ 47 → ⊥) → (get_or l i 0 ≡ 58 → ⊥) → name_right (drop i l) ≡ name_right (drop (i + 1) l)
-  unfolding name_right
-  name-on n m = rw (drop-one l i h, ne_eqb _ _ n, ne_eqb _ _ m)
-
-  module _ (k : List ℕ) (g : i < length k) where
-    pub same_not : (get_or l i 0 ≡ get_or k i 0 → ⊥) → same_bytes (drop i l) (drop i k) ≡ false
-    unfolding same_bytes
-    same_not n = rw (drop-one l i h, drop-one k i g, ne_eqb _ _ n)
-
-    pub same-on : get_or l i 0 ≡ get_or k i 0 → same_bytes (drop i l) (drop i k) ≡ same_bytes (drop (i + 1) l) (drop (i + 1) k)
-    unfolding same_bytes
-    same-on e = rw (drop-one l i h, drop-one k i g, eq-eqb _ _ e)
-
-pub name-end : (l : List ℕ) (i : ℕ) → length l ≤ i → name_right (drop i l) ≡ true
+pub name-all : (l : List ℕ) → list_all byte_right l ≡ name_right l
 unfolding name_right
-name-end l i h = rw (drop_of_length-le l h)
-
-pub same_end : (l k : List ℕ) (i : ℕ) → length l ≤ i → length k ≤ i → same_bytes (drop i l) (drop i k) ≡ true
-unfolding same_bytes
-same_end l k i h g = rw (drop_of_length-le l h, drop_of_length-le k g)
-
-pub same-lengths : (l k : List ℕ) → (length l ≡ length k → ⊥) → same_bytes l k ≡ false
-unfolding same_bytes
-same-lengths [] [] n = absurd (n refl)
-same-lengths [] (b ∷ bs) n = refl
-same-lengths (a ∷ l) [] n = refl
-same-lengths (a ∷ l) (b ∷ bs) n = go (eqb a b) (same-lengths l bs (λ e. n (ap suc e)))
+name-all [] = refl
+name-all (b ∷ l) = rw (name-all l) (go (eqb b 47) (eqb b 58) (name_right l))
   where
-    go : (t : Bool) → same_bytes l bs ≡ false → cond t (same_bytes l bs) false ≡ false
-    go true e = e
-    go false e = refl
+    go : (s t r : Bool) → (cond s false (not t) && r) ≡ cond s false (cond t false r)
+    go true t r = refl
+    go false true r = refl
+    go false false r = refl
+
+pub same-pointwise : (l k : List ℕ) → pointwise eqb l k ≡ same_bytes l k
+unfolding same_bytes
+same-pointwise [] [] = refl
+same-pointwise [] (b ∷ k) = refl
+same-pointwise (a ∷ l) [] = refl
+same-pointwise (a ∷ l) (b ∷ k) = rw (same-pointwise l k) (go (eqb a b) (same_bytes l k))
+  where
+    go : (t r : Bool) → (t && r) ≡ cond t r false
+    go true r = refl
+    go false r = refl
 
 -- Bytes that are found the same are equal.
 pub same_bytes_lem : (l k : List ℕ) → same_bytes l k ≡ true → l ≡ k

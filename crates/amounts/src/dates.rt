@@ -1,9 +1,9 @@
 // Dates of six digits, day, month and year. The years are 2000 to 2099.
 ghost use Rattle.std.specs.Prelude.{◌≡◌};
-ghost use Rattle.text.specs.Among.{from_to};
 ghost use Rattle.amounts.specs.Dates.{days_in, date_right};
 
 // The days of February: there is a leap year each fourth, 2000 the first.
+#[tactic(auto, unfolding(crate::specs::Dates::days_in, crate::specs::Dates::months, crate::specs::Dates::leap))]
 fn february(year: u64) -> u64
     ensures { result ≡ days_in 2 year }
 {
@@ -11,45 +11,25 @@ fn february(year: u64) -> u64
 }
 
 // The days of a month; none where there is no such month.
+#[tactic(auto, unfolding(crate::specs::Dates::days_in, crate::specs::Dates::months))]
 fn days_in(month: u64, year: u64) -> u64
     ensures { result ≡ days_in month year }
 {
     match month {
-        1 => 31,
+        1 | 3 | 5 | 7 | 8 | 10 | 12 => 31,
+        4 | 6 | 9 | 11 => 30,
         2 => february(year),
-        3 => 31,
-        4 => 30,
-        5 => 31,
-        6 => 30,
-        7 => 31,
-        8 => 31,
-        9 => 30,
-        10 => 31,
-        11 => 30,
-        12 => 31,
         _ => 0,
     }
 }
 
-// Whether n is one of the numbers from lo to hi.
-fn is_within(lo: u64, hi: u64, n: u64) -> bool
-    ensures { result ≡ from_to lo hi n }
-{
-    if n < lo {
-        return false;
-    }
-    if hi < n {
-        return false;
-    }
-    true
-}
-
 // Whether six digits are a date: the day exists in its month.
+#[tactic(auto, unfolding(crate::specs::Dates::date_right, crate::specs::Dates::day_exists))]
 pub fn date_right(v: u64) -> bool
     ensures { result ≡ date_right v }
 {
     let day = v / 10000;
     let month = v / 100 % 100;
     let year = v % 100;
-    is_within(1, days_in(month, year), day)
+    (1..=days_in(month, year)).contains(&day)
 }

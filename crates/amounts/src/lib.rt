@@ -18,7 +18,15 @@ pub struct Sums {
     pub credit: u64,
 }
 
+impl Sums {
+    pub const ZERO: Self = Sums {
+        debit: 0,
+        credit: 0,
+    };
+}
+
 // The sign of a section whose sums are d and c: N or P.
+#[tactic(auto, unfolding(crate::specs::Amounts::sign_of))]
 pub fn sign_of(d: u64, c: u64) -> u8
     ensures { result ≡ sign_of d c }
 {
@@ -26,46 +34,38 @@ pub fn sign_of(d: u64, c: u64) -> u8
 }
 
 // The balance of a section, without sign.
+#[tactic(auto, unfolding(crate::specs::Amounts::apart))]
 pub fn apart_of(d: u64, c: u64) -> u64
     ensures { result ≡ apart d c }
 {
-    if d < c { c - d } else { d - c }
+    d.abs_diff(c)
 }
 
 // The final balance of a delega, where it is not negative.
+#[tactic(auto, unfolding(crate::specs::Amounts::final_of))]
 pub fn final_of(t: Sums) -> u64
     ensures { result ≡ final_of t }
 {
-    if t.debit < t.credit {
-        0
-    } else {
-        t.debit - t.credit
-    }
+    t.debit.saturating_sub(t.credit)
 }
 
+#[tactic(auto, unfolding(crate::specs::Amounts::credit_right))]
 fn credit_right(s: usize, c: u64) -> bool
     ensures { result ≡ credit_right s c }
 {
-    let section = layout::section_at(s);
-    if section.credit_allowed {
-        return true;
-    }
-    c == 0
+    layout::section_at(s).credit_allowed || c == 0
 }
 
 // Whether a line of section s may carry a debit and a credit.
+#[tactic(auto, unfolding(crate::specs::Amounts::line_right))]
 pub fn line_right(s: usize, d: u64, c: u64) -> bool
     ensures { result ≡ line_right s d c }
 {
-    if d == 0 {
-        if c == 0 {
-            return false;
-        }
-    }
-    credit_right(s, c)
+    (d != 0 || c != 0) && credit_right(s, c)
 }
 
 // Check 9.
+#[tactic(auto, unfolding(crate::specs::Amounts::line_fault))]
 pub fn line_fault(s: usize, d: u64, c: u64) -> Result<(), Fault>
     ensures { result ≡ line_fault s d c }
 {
@@ -73,13 +73,11 @@ pub fn line_fault(s: usize, d: u64, c: u64) -> Result<(), Fault>
         return Ok(());
     }
     let section = layout::section_at(s);
-    if d == 0 {
-        if c == 0 {
-            return Err(Fault {
-                number: 9,
-                position: section.debit + 1,
-            });
-        }
+    if d == 0 && c == 0 {
+        return Err(Fault {
+            number: 9,
+            position: section.debit + 1,
+        });
     }
     Err(Fault {
         number: 9,

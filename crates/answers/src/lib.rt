@@ -1,7 +1,7 @@
 // The numbers in which the library writes its answers: a refusal, a summary, a delega, a portion and the state after it.
 #![tactic(auto)]
 
-ghost use Rattle.std.specs.Prelude.{◌≡◌, ◌≤◌, ◌∷◌, length};
+ghost use Rattle.std.specs.Prelude.{◌≡◌, ◌≤◌, ◌∷◌, ◌++◌, length};
 ghost use Rattle.state.specs.Numbers.{overlay, sums_numbers};
 ghost use Rattle.answers.specs.Numbers.{summary_numbers, delega_numbers, refusal_numbers, course_code, portion_numbers, handed_back};
 
@@ -20,63 +20,14 @@ pub fn put_refusal(room: &mut [u64], at: usize, position: usize)
     requires { 2 ≤ length room.old }
     ensures { room.new ≡ overlay (refusal_numbers at position) room.old }
 {
-    let numbers = [at as u64, position as u64];
-    state::put(&mut *room, &numbers);
+    state::put(room, &[at as u64, position as u64]);
 }
 
-// Writes the ten sums of a record.
-pub fn put_sums(room: &mut [u64], kept: [Sums; 5])
-    requires { 10 ≤ length room.old }
-    ensures { room.new ≡ overlay (sums_numbers kept) room.old }
+// The ten sums of five sections, as they are written.
+fn sums_numbers(sums: [Sums; 5]) -> [u64; 10]
+    ensures { result ≡ sums_numbers sums }
 {
-    let numbers = [
-        kept[0].debit,
-        kept[0].credit,
-        kept[1].debit,
-        kept[1].credit,
-        kept[2].debit,
-        kept[2].credit,
-        kept[3].debit,
-        kept[3].credit,
-        kept[4].debit,
-        kept[4].credit,
-    ];
-    state::put(&mut *room, &numbers);
-}
-
-// The numbers of a summary, as they are written.
-pub fn summary_numbers(s: Summary) -> [u64; 14]
-    ensures { result ≡ summary_numbers s }
-{
-    let totals = s.sums;
     [
-        s.deleghe,
-        s.records as u64,
-        s.total,
-        s.lines,
-        totals[0].debit,
-        totals[0].credit,
-        totals[1].debit,
-        totals[1].credit,
-        totals[2].debit,
-        totals[2].credit,
-        totals[3].debit,
-        totals[3].credit,
-        totals[4].debit,
-        totals[4].credit,
-    ]
-}
-
-// The numbers of a delega, as they are written.
-pub fn delega_numbers(d: DelegaAnswer) -> [u64; 14]
-    ensures { result ≡ delega_numbers d }
-{
-    let sums = d.sums;
-    [
-        d.balance,
-        d.lines,
-        d.set,
-        d.size,
         sums[0].debit,
         sums[0].credit,
         sums[1].debit,
@@ -88,6 +39,40 @@ pub fn delega_numbers(d: DelegaAnswer) -> [u64; 14]
         sums[4].debit,
         sums[4].credit,
     ]
+}
+
+// Writes the ten sums of a record.
+pub fn put_sums(room: &mut [u64], kept: [Sums; 5])
+    requires { 10 ≤ length room.old }
+    ensures { room.new ≡ overlay (sums_numbers kept) room.old }
+{
+    state::put(room, &sums_numbers(kept));
+}
+
+// Four numbers, and ten sums behind them.
+fn before_sums(four: [u64; 4], sums: [Sums; 5]) -> [u64; 14]
+    ensures { result ≡ four ++ sums_numbers sums }
+{
+    let mut numbers = [0; 14];
+    numbers[..4].copy_from_slice(&four);
+    numbers[4..].copy_from_slice(&sums_numbers(sums));
+    numbers
+}
+
+// The numbers of a summary, as they are written.
+#[tactic(auto, unfolding(crate::specs::Numbers::summary_numbers))]
+pub fn summary_numbers(s: Summary) -> [u64; 14]
+    ensures { result ≡ summary_numbers s }
+{
+    before_sums([s.deleghe, s.records as u64, s.total, s.lines], s.sums)
+}
+
+// The numbers of a delega, as they are written.
+#[tactic(auto, unfolding(crate::specs::Numbers::delega_numbers))]
+pub fn delega_numbers(d: DelegaAnswer) -> [u64; 14]
+    ensures { result ≡ delega_numbers d }
+{
+    before_sums([d.balance, d.lines, d.set, d.size], d.sums)
 }
 
 // What a portion's answer returns.
@@ -106,24 +91,9 @@ pub fn course_code(course: Course) -> u64
 fn accepted_numbers(examined: usize, s: Summary) -> [u64; 15]
     ensures { result ≡ examined ∷ summary_numbers s }
 {
-    let n = summary_numbers(s);
-    [
-        examined as u64,
-        n[0],
-        n[1],
-        n[2],
-        n[3],
-        n[4],
-        n[5],
-        n[6],
-        n[7],
-        n[8],
-        n[9],
-        n[10],
-        n[11],
-        n[12],
-        n[13],
-    ]
+    let mut numbers = [examined as u64; 15];
+    numbers[1..].copy_from_slice(&summary_numbers(s));
+    numbers
 }
 
 // Writes a portion's answer.
@@ -132,23 +102,11 @@ pub fn put_portion(room: &mut [u64], part: Portion)
     ensures { room.new ≡ overlay (portion_numbers part) room.old }
 {
     let examined = part.examined;
-    let course = part.answer;
-    match course {
-        Course::Going => {
-            let numbers = [examined as u64];
-            state::put(&mut *room, &numbers);
-        }
-        Course::Accepted => {
-            let numbers = accepted_numbers(examined, part.summary);
-            state::put(&mut *room, &numbers);
-        }
+    match part.answer {
+        Course::Going | Course::Foreign => state::put(room, &[examined as u64]),
+        Course::Accepted => state::put(room, &accepted_numbers(examined, part.summary)),
         Course::Refused(_, at, position) => {
-            let numbers = [examined as u64, at as u64, position as u64];
-            state::put(&mut *room, &numbers);
-        }
-        Course::Foreign => {
-            let numbers = [examined as u64];
-            state::put(&mut *room, &numbers);
+            state::put(room, &[examined as u64, at as u64, position as u64]);
         }
     }
 }
@@ -158,10 +116,8 @@ pub fn hand_back(room: &mut [u64], part: Portion)
     requires { 53 ≤ length room.old }
     ensures { room.new ≡ handed_back part room.old }
 {
-    let course = part.answer;
-    if let Course::Foreign = course {
+    if let Course::Foreign = part.answer {
         return;
     }
-    let numbers = handed::progress_numbers(part.next);
-    state::put(&mut *room, &numbers);
+    state::put(room, &handed::progress_numbers(part.next));
 }

@@ -3,6 +3,7 @@ use Prim.Native.Nat.{ℕ, ◌+◌, ◌-◌, ◌*◌, ◌^◌, ◌<◌, ◌≤◌
 use mathlib.Core.Path.{◌≡◌, refl, ap, ◌∙◌}
 use mathlib.Core.Bool.{Bool, true, false, cond}
 use mathlib.Core.List.{List, [], ◌∷◌}
+use mathlib.Core.Logic.{◌⊎◌, inl, inr}
 use native.Mathlib.Omega.{arith}
 use borrow.Author.Tests.{lt-ltb, le-ltb, eq-eqb, ne_eqb}
 use lib.ListN.{length, drop, get_or}
@@ -42,6 +43,10 @@ module _ (l : List ℕ) (i : ℕ) (h : i < length l) (a : ℕ) where
 
   pub read-high : 48 ≤ get_or l i 0 → 57 < get_or l i 0 → fitting (number_from i a (drop i l)) ≡ NoNumber
   read-high t u = rw (number-high l i h a t u)
+
+  pub read-other : (get_or l i 0 < 48) ⊎ (57 < get_or l i 0) → fitting (number_from i a (drop i l)) ≡ NoNumber
+  read-other (inl t) = read_low t
+  read-other (inr u) = read-high (omega arith) u
 
   pub read-large : 48 ≤ get_or l i 0 → get_or l i 0 ≤ 57 → 2 ^ 64 ≤ a * 10 + (get_or l i 0 - 48) → fitting (number_from i a (drop i l)) ≡ NoNumber
   read-large t u g = ap fitting (number-on l i h a t u) ∙ too_large (drop (i + 1) l) (i + 1) (a * 10 + (get_or l i 0 - 48)) g

@@ -15,28 +15,21 @@ pub enum Argument {
 pub fn decimal(word: &[u8]) -> Argument
     ensures { result ≡ decimal_of word.now }
 {
-    if word.len() == 0 {
+    if word.is_empty() || 20 < word.len() {
         return Argument::NoNumber;
     }
-    if 20 < word.len() {
-        return Argument::NoNumber;
-    }
-    let mut i: usize = 0;
     let mut n: u64 = 0;
-    while i < word.len() {
-        let b = word[i];
-        if b < 48 {
+    for &b in word {
+        if !b.is_ascii_digit() {
             return Argument::NoNumber;
         }
-        if 57 < b {
+        let Some(tens) = n.checked_mul(10) else {
             return Argument::NoNumber;
-        }
-        let d = (b - 48) as u64;
-        if (u64::MAX - d) / 10 < n {
+        };
+        let Some(more) = tens.checked_add(u64::from(b - b'0')) else {
             return Argument::NoNumber;
-        }
-        n = n * 10 + d;
-        i += 1;
+        };
+        n = more;
     }
     Argument::Number(n)
 }

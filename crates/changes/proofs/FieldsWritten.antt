@@ -5,7 +5,8 @@ use mathlib.Core.Bool.{Bool, true, false, cond}
 use mathlib.Core.List.{List, [], ◌∷◌}
 use native.Mathlib.Omega.{arith}
 use lib.Dec.{lit≤}
-use lib.ListN.{length, get_or}
+use lib.ListN.{length, take, get_or}
+use lib.Seq.{take_at}
 use Rattle.layout.specs.declared.Field.{Field}
 use Rattle.layout.specs.declared.Fields.{Fields}
 use Rattle.layout.specs.declared.Kind.{Kind}
@@ -15,7 +16,6 @@ use Rattle.layout.specs.Kinds.{kind_in}
 use Rattle.layout.specs.Fields.{nowhere, listed, amount_at}
 use Rattle.layout.proofs.InTable.{section_of, section-within}
 use Rattle.layout.proofs.Table.{row-rule}
-use Rattle.layout.proofs.Within.{listed_at}
 use Rattle.rebalance.specs.Places.{sign_and_balance}
 use Rattle.changes.specs.Changes.{written_fields}
 use Rattle.changes.specs.Listed.{OneOf, first, later}
@@ -79,13 +79,6 @@ apart-one n [] a g x'' = elim x'' [ ]
 apart-one n (f ∷ fl) a g (first e) = rw e (a.0, a.1, a.2)
 apart-one n (f ∷ fl) a g (later o) = let h = apart-one f.end fl a.3 g o in (omega (arith, a.0, a.1, h.0), h.1, h.2)
 
--- The fields of a record as the code hands them out, and one that is looked at.
-module _ (k : Kind) (fs : Fields) (e : fs ≡ listed (written_fields k)) (f : ℕ) (h : f < fs.count) where
-  pub inside : f < length (written_fields k)
-  inside = omega (arith, ap (λ (x : Fields). x.count) e)
-
-  pub in_four : f < 4
-  in_four = omega (arith, inside, written-four k)
-
-  pub field_is : get_or fs.fields f nowhere ≡ get_or (written_fields k) f nowhere
-  field_is = ap (λ (x : Fields). get_or x.fields f nowhere) e ∙ listed_at (written_fields k) f inside
+-- The code hands these fields out, with how many they are.
+pub handed-out : (k : Kind) (fs : Fields) → fs ≡ listed (written_fields k) → take fs.count fs.fields ≡ written_fields k
+handed-out k fs e = ap (λ (x : Fields). take x.count x.fields) e ∙ take_at (written_fields k) _ _ refl

@@ -37,20 +37,14 @@ fn written_fields(k: Kind) -> Fields
     ensures { result ≡ listed (written_fields k) }
 {
     match k {
-        Kind::Head => layout::no_fields(),
-        Kind::Taxpayer => layout::no_fields(),
-        Kind::Domicile => layout::no_fields(),
-        Kind::Line(_) => layout::no_fields(),
         Kind::Balance(s) => balance_fields(s),
         Kind::Payment => layout::one_field(layout::FINAL_BALANCE),
-        Kind::Receipt => layout::no_fields(),
-        Kind::Addressee => layout::no_fields(),
         Kind::Tail => layout::three_fields(
             layout::TAIL_DELEGHE,
             layout::TAIL_SUM,
             layout::TAIL_RECORDS,
         ),
-        Kind::Unknown => layout::no_fields(),
+        _ => layout::no_fields(),
     }
 }
 
@@ -75,7 +69,7 @@ fn list_field(old: &[u8], new: &[u8], field: Field, k: usize, list: &mut [u64], 
     if amounts::same_bytes(&old[start..end], &new[start..end]) {
         return n;
     }
-    put_place(&mut *list, n, k, start + 1);
+    put_place(list, n, k, start + 1);
     n + 1
 }
 
@@ -86,13 +80,9 @@ fn list_record(old: &[u8], new: &[u8], k: usize, list: &mut [u64], n: usize) -> 
         × (list.new ≡ put_places n (changed_in k (written_fields (kind_in old.now)) old.now new.now) list.old) }
 {
     let fields = written_fields(records::kind_in(old));
-    let places = fields.fields;
     let mut listed = n;
-    let mut f: usize = 0;
-    while f < fields.count {
-        let field = places[f];
-        listed = list_field(old, new, field, k, &mut *list, listed);
-        f += 1;
+    for field in &fields.fields[..fields.count] {
+        listed = list_field(old, new, *field, k, list, listed);
     }
     listed
 }
@@ -103,19 +93,16 @@ pub fn list_changes(old: &[u8], new: &[u8], list: &mut [u64]) -> usize
     ensures { (result ≡ length (changed_from 0 (records_of old.now) (records_of new.now)))
         × (list.new ≡ put_places 0 (changed_from 0 (records_of old.now) (records_of new.now)) list.old) }
 {
-    let count = old.len() / Flow::RECORD;
     let mut n: usize = 0;
-    let mut k: usize = 0;
-    while k < count {
+    for k in 0..old.len() / Flow::RECORD {
         let at = k * Flow::RECORD;
         n = list_record(
             records::record_at(old, at),
             records::record_at(new, at),
             k + 1,
-            &mut *list,
+            list,
             n,
         );
-        k += 1;
     }
     n
 }

@@ -8,7 +8,7 @@ use native.Mathlib.Decide.{dec_lt, ℕ_discrete}
 use borrow.Author.Tests.{ne_eqb, eqb-true, eqb-false, not-true}
 use lib.Dec.{eqb}
 use lib.ListN.{length}
-use Rattle.text.specs.Among.{among, from_to}
+use Rattle.text.specs.Among.{among}
 use Rattle.text.proofs.Bytes.{between}
 use Rattle.text.proofs.Tests.{untrue, both_true}
 use Rattle.order.proofs.Fitting.{turned}

@@ -1,9 +1,10 @@
 -- A list of numbers gone through one by one: whether a number is among them, and whether each is named once.
 use Prim.Native.Nat.{ℕ, ◌+◌, ◌-◌, ◌<◌, ◌≤◌}
-use mathlib.Core.Path.{◌≡◌, refl, ◌∙◌}
-use mathlib.Core.Bool.{Bool, true, false, cond, not}
-use mathlib.Core.List.{List, ◌∷◌}
-use borrow.Author.Tests.{not-true, not-false}
+use mathlib.Core.Path.{◌≡◌, refl, sym, ◌∙◌}
+use mathlib.Core.Bool.{Bool, true, false, cond, ◌||◌}
+use mathlib.Core.List.{List, [], ◌∷◌}
+use borrow.Author.Tests.{eq-eqb, ne_eqb, eqb-true, eqb-false}
+use Rattle.std.specs.List.{list_any}
 use borrow.Author.Rules.{part_to_end}
 use lib.Dec.{eqb}
 use lib.ListN.{length, take, drop, get_or, drop_of_length-le}
@@ -22,17 +23,17 @@ once-cons n d ds = go (from_to 1 n d) (among d ds)
     go true false = refl
     go false t = refl
 
+-- A test of each number of a list against one says whether that is among them.
+pub among-any : (d : ℕ) (l : List ℕ) → list_any (λ y. eqb y d) l ≡ among d l
+unfolding among
+among-any d [] = refl
+among-any d (x ∷ xs) = go (eqb x d) refl (among-any d xs)
+  where
+    go : (t : Bool) → eqb x d ≡ t → list_any (λ y. eqb y d) xs ≡ among d xs → (t || list_any (λ y. eqb y d) xs) ≡ cond (eqb d x) true (among d xs)
+    go true e h = rw (eq-eqb d x (sym (eqb-true x d e)))
+    go false e h = rw (ne_eqb d x (λ q. eqb-false x d e (sym q))) h
+
 module _ (l : List ℕ) (i : ℕ) where
-  -- A number is among those left where it is the next, or is among those behind it.
-  pub among-on : (d : ℕ) → i < length l → among d (drop i l) ≡ cond (eqb d (get_or l i 0)) true (among d (drop (i + 1) l))
-  unfolding among
-  among-on d h = rw (drop-one l i h)
-
-  -- No number is among none.
-  pub among-end : (d : ℕ) → length l ≤ i → among d (drop i l) ≡ false
-  unfolding among
-  among-end d h = rw (drop_of_length-le l h)
-
   -- The next number was asked about, with the part behind it.
   module _ (n : ℕ) (t : Bool) (h : i < length l) (asked : t ≡ named_once n (get_or l i 0) (take (length l - (i + 1)) (drop (i + 1) l))) where
     -- Each of those left is named once where the next is, and each of those behind it.
@@ -40,12 +41,12 @@ module _ (l : List ℕ) (i : ℕ) where
     once-next = rw (drop-one l i h, asked, part_to_end l (i + 1)) (once-cons n (get_or l i 0) (drop (i + 1) l))
 
     -- Where the next is not, not each is.
-    pub once-fails : not t ≡ true → each_once n (drop i l) ≡ false
-    once-fails e = once-next ∙ rw (not-true t e)
+    pub once-fails : t ≡ false → each_once n (drop i l) ≡ false
+    once-fails e = once-next ∙ rw e
 
     -- Where the next is, it is for those behind it to say.
-    pub once-on : not t ≡ false → each_once n (drop i l) ≡ each_once n (drop (i + 1) l)
-    once-on e = once-next ∙ rw (not-false t e)
+    pub once-on : t ≡ true → each_once n (drop i l) ≡ each_once n (drop (i + 1) l)
+    once-on e = once-next ∙ rw e
 
   -- Each of none is named once.
   pub once-end : (n : ℕ) → length l ≤ i → each_once n (drop i l) ≡ true

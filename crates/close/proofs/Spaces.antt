@@ -1,24 +1,13 @@
--- Spaces written into a room, one by one, and behind the bytes that are left.
-use Prim.Native.Nat.{ℕ, ◌+◌, ◌-◌, ◌<◌, ◌≤◌}
+-- Spaces behind the bytes that are left.
+use Prim.Native.Nat.{ℕ, ◌-◌, ◌≤◌}
 use mathlib.Core.Path.{◌≡◌, sym, ap, ◌∙◌}
-use mathlib.Core.List.{List, [], ◌∷◌, ◌++◌, append-nil}
+use mathlib.Core.List.{List, [], ◌++◌, append-nil}
 use native.Mathlib.Omega.{arith}
-use native.Mathlib.Numerals.{add-one}
 use borrow.Author.Rules.{part_to_end}
 use borrow.Rule.Slice.PartMut.{put_mid, post_of}
-use lib.ListN.{length, take, drop, set, replicate, length-append, length-drop, drop_of_length-le, replicate-append-replicate}
-use lib.Seq.{take_all, take_at, drop_at, take-suc-set}
+use lib.ListN.{length, take, drop, replicate, length-append, length-drop, drop_of_length-le}
+use lib.Seq.{take_at, drop_at}
 use Rattle.close.specs.Closing.{spaced}
-
--- One space more stands at the front of a room.
-pub spaces-on : (i : ℕ) (l : List ℕ) → i < length l → take i l ≡ replicate i 32 → take (i + 1) (set l i 32) ≡ replicate (i + 1) 32
-spaces-on i l h e = ap (λ (n : ℕ). take n (set l i 32)) (add-one i) ∙ (take-suc-set l i 32 h ∙ (ap (λ (s : List ℕ). s ++ (32 ∷ [])) e ∙ replicate-append-replicate i 1 32))
-
--- Spaces fill the room.
-pub spaces-end : (i : ℕ) (l₀ l : List ℕ) → (i ≤ length l₀) × (length l ≡ length l₀) × (take i l ≡ replicate i 32) → length l ≤ i → l ≡ replicate (length l₀) 32
-spaces-end i l₀ l v h =
-    let e : i ≡ length l₀ = omega arith in
-    sym (take_all i l h) ∙ (v.2 ∙ ap (λ (n : ℕ). replicate n 32) e)
 
 -- Where bytes stand at the front of a flow, spaces in the place of all that is behind them leave those bytes, spaced.
 pub spaces-behind : (g f m s : List ℕ) (n : ℕ) → n ≡ length g → n ≤ length f → m ≡ g ++ drop n f → s ≡ replicate (length (take (length m - n) (drop n m))) 32 → put_mid n (length m - n) m s ≡ spaced g (length f)

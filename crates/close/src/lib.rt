@@ -41,10 +41,7 @@ fn is_kept(rec: &[u8], kind: Kind, numbers: &[u64]) -> bool
     requires { (length rec.now ≡ 120) × (kind ≡ kind_in rec.now) }
     ensures { result ≡ stays numbers.now rec.now }
 {
-    if layout::is_numbered(kind) {
-        return !names(numbers, number_in(rec));
-    }
-    true
+    !layout::is_numbered(kind) || !names(numbers, number_in(rec))
 }
 
 // Puts the record at one index of a flow at another, not behind it, with the number of its delega.
@@ -55,7 +52,7 @@ fn move_record(flow: &mut [u8], from: usize, to: usize, kind: Kind, d: u64)
     let mut rec = [0u8; Flow::RECORD];
     text::put_part(&mut rec, 0, records::record_at(flow, from));
     rebalance::put_delega(&mut rec, kind, d);
-    text::put_part(&mut *flow, to, &rec);
+    text::put_part(flow, to, &rec);
 }
 
 // Goes over the k-th record of a flow, counted from 0: one that stays is moved up behind those that are kept.
@@ -69,7 +66,7 @@ fn keep(flow: &mut [u8], k: usize, kept: Kept, numbers: &[u64]) -> Kept
     let kind = records::kind_in(rec);
     if is_kept(rec, kind, numbers) {
         let deleghe = rules::next_deleghe(kept.deleghe, kind);
-        move_record(&mut *flow, from, kept.records * Flow::RECORD, kind, deleghe);
+        move_record(flow, from, kept.records * Flow::RECORD, kind, deleghe);
         return Kept {
             records: kept.records + 1,
             deleghe,
@@ -84,28 +81,14 @@ fn move_up(flow: &mut [u8], numbers: &[u64]) -> usize
     ensures { (result ≡ length (closed_up numbers.now flow.old)) × (result ≤ length flow.old)
         × (flow.new ≡ closed_up numbers.now flow.old ++ drop result flow.old) }
 {
-    let count = flow.len() / Flow::RECORD;
     let mut kept = Kept {
         records: 0,
         deleghe: 0,
     };
-    let mut k: usize = 0;
-    while k < count {
-        kept = keep(&mut *flow, k, kept, numbers);
-        k += 1;
+    for k in 0..flow.len() / Flow::RECORD {
+        kept = keep(flow, k, kept, numbers);
     }
     kept.records * Flow::RECORD
-}
-
-// Fills a room with spaces.
-fn put_spaces(room: &mut [u8])
-    ensures { room.new ≡ replicate (length room.old) 32 }
-{
-    let mut i: usize = 0;
-    while i < room.len() {
-        room[i] = b' ';
-        i += 1;
-    }
 }
 
 // Closes a flow up over the deleghe that a list names. The answer is how many bytes are left; spaces stand behind them.
@@ -114,7 +97,7 @@ pub fn close_up(flow: &mut [u8], numbers: &[u64]) -> usize
     ensures { (result ≡ length (closed_up numbers.now flow.old)) × (result ≤ length flow.old)
         × (flow.new ≡ spaced (closed_up numbers.now flow.old) (length flow.old)) }
 {
-    let n = move_up(&mut *flow, numbers);
-    put_spaces(&mut flow[n..]);
+    let n = move_up(flow, numbers);
+    flow[n..].fill(b' ');
     n
 }

@@ -8,46 +8,27 @@ ghost use Rattle.close.specs.Inner.{named_once};
 pub fn names(numbers: &[u64], d: u64) -> bool
     ensures { result ≡ among d numbers.now }
 {
-    let mut i: usize = 0;
-    while i < numbers.len() {
-        if numbers[i] == d {
-            return true;
-        }
-        i += 1;
-    }
-    false
+    numbers.contains(&d)
 }
 
 // Whether d is the number of one of so many deleghe, and is not named by the others of a list.
 fn is_named_once(d: u64, others: &[u64], deleghe: u64) -> bool
     ensures { result ≡ named_once deleghe d others.now }
 {
-    if d == 0 {
-        return false;
-    }
-    if deleghe < d {
-        return false;
-    }
-    if names(others, d) {
-        return false;
-    }
-    true
+    (1..=deleghe).contains(&d) && !names(others, d)
 }
 
 // Whether every number of a list is that of one of so many deleghe, and is named once. A list of more numbers than deleghe is not gone through.
 pub fn each_once(numbers: &[u64], deleghe: u64) -> bool
     ensures { result ≡ each_once deleghe numbers.now }
 {
-    let count = numbers.len();
-    if deleghe < count as u64 {
+    if deleghe < numbers.len() as u64 {
         return false;
     }
-    let mut i: usize = 0;
-    while i < count {
-        if !is_named_once(numbers[i], &numbers[i + 1..], deleghe) {
+    for (i, d) in numbers.iter().enumerate() {
+        if !is_named_once(*d, &numbers[i + 1..], deleghe) {
             return false;
         }
-        i += 1;
     }
     true
 }

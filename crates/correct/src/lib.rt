@@ -26,8 +26,8 @@ fn put_amounts(flow: &mut [u8], debit_at: usize, credit_at: usize, debit: u64, c
     requires { Room flow.old debit_at credit_at × Fifteen debit × Fifteen credit }
     ensures { flow.new ≡ amounts_put debit_at credit_at debit credit flow.old }
 {
-    text::put_number(&mut *flow, credit_at, Amount::WIDTH, credit);
-    text::put_number(&mut *flow, debit_at, Amount::WIDTH, debit);
+    text::put_number(flow, credit_at, Amount::WIDTH, credit);
+    text::put_number(flow, debit_at, Amount::WIDTH, debit);
 }
 
 // The fifteen bytes that start at an index.
@@ -51,8 +51,8 @@ fn put_back(
     requires { Room flow.old debit_at credit_at }
     ensures { flow.new ≡ put_at credit_at credit (put_at debit_at debit flow.old) }
 {
-    text::put_part(&mut *flow, debit_at, &debit);
-    text::put_part(&mut *flow, credit_at, &credit);
+    text::put_part(flow, debit_at, &debit);
+    text::put_part(flow, credit_at, &credit);
 }
 
 // 14, then 23: what a flow whose line has been replaced is answered.
@@ -82,14 +82,14 @@ fn replace(
 {
     let old_debit = bytes_at(flow, debit_at);
     let old_credit = bytes_at(flow, credit_at);
-    put_amounts(&mut *flow, debit_at, credit_at, debit, credit);
+    put_amounts(flow, debit_at, credit_at, debit, credit);
     let surveyed = rebalance::survey(flow);
     let answer = outcome(surveyed.negative, surveyed.fits);
     if let Ok(()) = answer {
-        rebalance::rebalance(&mut *flow);
+        rebalance::rebalance(flow);
         return answer;
     }
-    put_back(&mut *flow, debit_at, credit_at, old_debit, old_credit);
+    put_back(flow, debit_at, credit_at, old_debit, old_credit);
     answer
 }
 
@@ -99,17 +99,14 @@ fn try_line(flow: &mut [u8], k: usize, s: usize, debit: u64, credit: u64) -> Res
     ensures { (result ≡ tried k s debit credit flow.old)
         × (flow.new ≡ bytes_after result (refreshed (replaced k s debit credit flow.old)) flow.old) }
 {
-    if Amount::LARGEST < debit {
-        return Err(Refusal::LARGE_AMOUNT);
-    }
-    if Amount::LARGEST < credit {
+    if Amount::LARGEST < debit || Amount::LARGEST < credit {
         return Err(Refusal::LARGE_AMOUNT);
     }
     if amounts::line_right(s, debit, credit) {
         let section = layout::section_at(s);
         let start = (k - 1) * Flow::RECORD;
         return replace(
-            &mut *flow,
+            flow,
             start + section.debit,
             start + section.credit,
             debit,
@@ -132,5 +129,5 @@ pub fn correct(
         × (flow.new ≡ corrected_bytes flow.old delega subtype nth debit credit) }
 {
     let k = find::find(flow, delega, subtype, nth)?;
-    try_line(&mut *flow, k, section_of(subtype), debit, credit)
+    try_line(flow, k, section_of(subtype), debit, credit)
 }

@@ -51,18 +51,14 @@ fn refused(number: u64, at: usize, position: usize) -> DelegaAnswer
 fn answer_of(st: State, used: Used) -> DelegaAnswer
     ensures { result ≡ answered st used }
 {
-    let money = st.money;
-    let delega = money.delega;
-    let sums = delega.sections;
-    let size = used.size();
-    let first = used.first();
+    let sums = st.money.delega.sections;
     DelegaAnswer {
         verdict: Verdict::Accepted,
-        balance: amounts::final_of(delega.all),
+        balance: amounts::final_of(st.money.delega.all),
         lines: used.lines,
         set: used.set,
-        size,
-        first,
+        size: used.size(),
+        first: used.first(),
         sums,
     }
 }
@@ -71,10 +67,7 @@ fn answer_of(st: State, used: Used) -> DelegaAnswer
 fn closes(number: u64, deleghe: u64, k: Kind) -> bool
     ensures { result ≡ closes_at number deleghe k }
 {
-    if let Kind::Payment = k {
-        return deleghe == number;
-    }
-    false
+    matches!(k, Kind::Payment) && deleghe == number
 }
 
 // The answer of a delega by its number, from the first record on.
@@ -82,11 +75,9 @@ fn delega_from(flow: &[u8], number: u64) -> DelegaAnswer
     requires { Whole flow.now }
     ensures { result ≡ delega_from number start_state none_used (records_of flow.now) }
 {
-    let count = flow.len() / Flow::RECORD;
     let mut st = rules::start();
     let mut used = Used::none();
-    while st.seen < count {
-        let rec = records::record_at(flow, st.seen * Flow::RECORD);
+    for rec in flow.chunks_exact(Flow::RECORD) {
         let kind = records::kind_in(rec);
         if closes(number, st.deleghe, kind) {
             return answer_of(st, used);
@@ -106,11 +97,7 @@ pub fn delega(flow: &[u8], number: u64) -> DelegaAnswer
     if let Verdict::Refused(code, at, position) = verdict {
         return refused(code, at, position);
     }
-    if number == 0 {
-        return refused(21, 0, 0);
-    }
-    let summary = judgement.summary;
-    if summary.deleghe < number {
+    if number == 0 || judgement.summary.deleghe < number {
         return refused(21, 0, 0);
     }
     delega_from(flow, number)

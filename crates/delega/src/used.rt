@@ -45,26 +45,24 @@ impl Used {
         requires { self.lines < 1000 }
         ensures { result ≡ next_used self k }
     {
-        if let Kind::Taxpayer = k {
-            return Used::none();
+        match k {
+            Kind::Taxpayer => Used::none(),
+            Kind::Line(s) => self.with_line(s),
+            _ => self,
         }
-        let Kind::Line(s) = k else {
-            return self;
-        };
-        self.with_line(s)
     }
 
     // How many sections: the ones of the set.
     pub fn size(self) -> u64
         ensures { result ≡ size_of self.set }
     {
-        u64::count_ones(self.set) as u64
+        u64::from(self.set.count_ones())
     }
 
     // The first of them: the zeros behind its bit.
     pub fn first(self) -> usize
         ensures { result ≡ first_of self.set }
     {
-        u64::trailing_zeros(self.set) as usize
+        self.set.trailing_zeros() as usize
     }
 }

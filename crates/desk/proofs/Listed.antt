@@ -6,7 +6,7 @@ use native.Mathlib.Omega.{arith}
 use native.Mathlib.Numerals.{add-one}
 use borrow.Author.Tests.{lt-ltb, le-ltb}
 use lib.ListN.{length, take, drop, set}
-use lib.Seq.{take_all, take-suc-set}
+use lib.Seq.{take-suc-set}
 use Rattle.args.specs.Decimal.{decimal_of}
 use Rattle.desk.specs.Header.{or_zero, number_at, number_in, numbers_in}
 
@@ -33,9 +33,3 @@ module _ (text : List ℕ) where
   numbers_on i v l h e p =
       ap (λ (n : ℕ). take n (set l i v)) (add-one i)
       ∙ (take-suc-set l i v h ∙ (ap (λ (s : List ℕ). s ++ (v ∷ [])) e ∙ (ap (λ (x : ℕ). numbers_in text i ++ (x ∷ [])) p ∙ ap (numbers_in text) (sym (add-one i)))))
-
-  -- Numbers fill the list.
-  pub numbers-end : (i : ℕ) (l₀ l : List ℕ) → (i ≤ length l₀) × (length l ≡ length l₀) × (take i l ≡ numbers_in text i) → length l ≤ i → l ≡ numbers_in text (length l₀)
-  numbers-end i l₀ l v h =
-      let e : i ≡ length l₀ = omega arith in
-      sym (take_all i l h) ∙ (v.2 ∙ ap (numbers_in text) e)

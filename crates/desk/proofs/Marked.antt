@@ -5,7 +5,7 @@ use mathlib.Core.List.{List, [], ◌∷◌, ◌++◌}
 use native.Mathlib.Omega.{arith}
 use native.Mathlib.Numerals.{add-one}
 use lib.ListN.{length, take, set}
-use lib.Seq.{take_all, take-suc-set}
+use lib.Seq.{take-suc-set}
 use Rattle.desk.specs.Marks.{marks}
 
 -- None stands there yet.
@@ -19,9 +19,3 @@ unfolding marks
 marks-on i l h e =
     ap (λ (n : ℕ). take n (set l i (9_000_000_000 + i))) (add-one i)
     ∙ (take-suc-set l i (9_000_000_000 + i) h ∙ (ap (λ (s : List ℕ). s ++ ((9_000_000_000 + i) ∷ [])) e ∙ ap marks (sym (add-one i))))
-
--- Marks fill the list.
-pub marks-end : (i : ℕ) (l₀ l : List ℕ) → (i ≤ length l₀) × (length l ≡ length l₀) × (take i l ≡ marks i) → length l ≤ i → l ≡ marks (length l₀)
-marks-end i l₀ l v h =
-    let e : i ≡ length l₀ = omega arith in
-    sym (take_all i l h) ∙ (v.2 ∙ ap marks e)

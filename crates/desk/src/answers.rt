@@ -1,5 +1,5 @@
 // Answers, as they are printed.
-use crate::output::{print_bytes, print_decimal};
+use crate::output::print_bytes;
 use find::Found;
 use judge::Judgement;
 
@@ -19,11 +19,7 @@ pub fn print_refusal(rt: &HostRuntime, number: u64, at: usize, position: usize) 
 
 // An acceptance of records of the F24 EP form: how many payments they are, and the sum of their totals.
 pub fn print_payments(rt: &HostRuntime, count: u64, sum: u64) {
-    print_bytes(rt, b"ACCEPTED ");
-    print_decimal(rt, count);
-    print_bytes(rt, b" ");
-    print_decimal(rt, sum);
-    print_bytes(rt, b"\n");
+    let _ = println!(rt; "ACCEPTED {count} {sum}");
 }
 
 // What the desk is shown of one delega: its numbers and then its sums, or the refusal.
@@ -50,39 +46,25 @@ pub fn print_line(rt: &HostRuntime, flow: &[u8], delega: u64, subtype: u64, nth:
 
 // A record with its number.
 pub fn print_record(rt: &HostRuntime, k: usize, part: &[u8]) {
-    print_decimal(rt, k as u64);
-    print_bytes(rt, b" ");
+    let _ = print!(rt; "{k} ");
     print_bytes(rt, part);
     print_bytes(rt, b"\n");
 }
 
 // How many records a judgement by portions has examined, and in how many calls.
 pub fn print_examined(rt: &HostRuntime, records: usize, calls: usize) {
-    print_bytes(rt, b"EXAMINED ");
-    print_decimal(rt, records as u64);
-    print_bytes(rt, b" ");
-    print_decimal(rt, calls as u64);
-    print_bytes(rt, b"\n");
+    let _ = println!(rt; "EXAMINED {records} {calls}");
 }
 
-// A field that a rebalancing changed: the number of its record, and where it starts.
-fn print_changed(rt: &HostRuntime, at: u64, start: u64) {
-    print_bytes(rt, b"CHANGED ");
-    print_decimal(rt, at);
-    print_bytes(rt, b" ");
-    print_decimal(rt, start);
-    print_bytes(rt, b"\n");
+// A word for what was done, and the number that it is told with.
+pub fn print_counted(rt: &HostRuntime, word: &str, n: usize) {
+    let _ = println!(rt; "{word} {n}");
 }
 
-// The fields that a rebalancing changed: the first `count` pairs of the list, so far as it has them.
+// The fields that a rebalancing changed, each by the number of its record and where it starts: the first `count` pairs of the list, so far as it has them.
 pub fn print_changes(rt: &HostRuntime, list: &[u64], count: usize) {
-    let mut i: usize = 0;
-    while i < count {
-        if list.len() / 2 <= i {
-            break;
-        }
-        let at = 2 * i;
-        print_changed(rt, list[at], list[at + 1]);
-        i += 1;
+    let (pairs, _) = list.as_chunks::<2>();
+    for [at, start] in pairs.iter().take(count) {
+        let _ = println!(rt; "CHANGED {at} {start}");
     }
 }

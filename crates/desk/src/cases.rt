@@ -6,12 +6,15 @@ ghost use Rattle.desk.specs.Marks.{marks};
 
 use crate::messages::fail;
 use crate::output::print_bytes;
-use crate::reading::opened;
-use crate::{FIRST_MARK, Numbers};
+use crate::reading::{fill, opened};
+use crate::{CALL_HEADER, FIRST_MARK, Numbers};
 use args::Argument;
 use std::fs::File;
 use std::io::Read;
 use text::Digits;
+
+// No file of run cases has more.
+const MOST_CASES: usize = 10000;
 
 // Opens a file of run cases. Where it cannot be opened, one line on standard error says so, and there is none.
 pub fn open_cases(rt: &HostRuntime, path: &[u8]) -> Option<File> {
@@ -24,18 +27,39 @@ pub fn open_cases(rt: &HostRuntime, path: &[u8]) -> Option<File> {
     }
 }
 
+// Runs the cases of a file one after the other, each read as `next_case` does below a header of so many bytes, until there is none left or a step finds its own not there.
+// A step is handed the file, where it reads what stands below the flow, the numbers of the call, which are zeros where the header has none, and the flow.
+pub fn run_cases<const ROOM: usize, F: Fn(&HostRuntime, &mut File, Numbers, &mut [u8]) -> bool>(
+    rt: &HostRuntime,
+    path: &[u8],
+    header: usize,
+    step: F,
+)
+    requires callable { F.IsAlwaysCallable step }
+    requires header_fits { header ≤ 153 }
+    requires room_fits { ROOM ≤ 200_000 }
+{
+    let Some(mut cases) = open_cases(rt, path) else {
+        return;
+    };
+    for _ in 0..MOST_CASES {
+        let mut head = [0u8; CALL_HEADER];
+        // Kept: no heap: the flow lies in a room of fixed length, and beside it how much of it there is.
+        let mut room = [0u8; ROOM];
+        let Some(n) = next_case(rt, &mut cases, &mut head[..header], &mut room) else {
+            break;
+        };
+        if !step(rt, &mut cases, numbers_of(head), &mut room[..n]) {
+            break;
+        }
+    }
+}
+
 // How long the name at the start of a header is: up to its first space.
 fn name_length(head: &[u8]) -> usize
     ensures { result ≤ length head.now }
 {
-    let mut n: usize = 0;
-    while n < head.len() {
-        if head[n] == b' ' {
-            return n;
-        }
-        n += 1;
-    }
-    n
+    head.iter().position(|b| *b == b' ').unwrap_or(head.len())
 }
 
 // Prints the name of a run case, which stands at the start of its header.
@@ -83,10 +107,8 @@ fn number_in(text: &[u8], i: usize) -> u64
 pub fn put_numbers(list: &mut [u64], text: &[u8])
     ensures { list.new ≡ numbers_in text.now (length list.old) }
 {
-    let mut i: usize = 0;
-    while i < list.len() {
-        list[i] = number_in(text, i);
-        i += 1;
+    for (i, place) in list.iter_mut().enumerate() {
+        *place = number_in(text, i);
     }
 }
 
@@ -94,10 +116,8 @@ pub fn put_numbers(list: &mut [u64], text: &[u8])
 pub fn mark(list: &mut [u64])
     ensures { list.new ≡ marks (length list.old) }
 {
-    let mut i: usize = 0;
-    while i < list.len() {
-        list[i] = FIRST_MARK + i as u64;
-        i += 1;
+    for (i, place) in list.iter_mut().enumerate() {
+        *place = FIRST_MARK + i as u64;
     }
 }
 
@@ -127,15 +147,7 @@ fn length_in(head: &[u8]) -> usize
 pub fn read_full<R: Read>(reader: &mut R, room: &mut [u8]) -> usize
     ensures { result ≤ length room.old }
 {
-    let mut done: usize = 0;
-    while done < room.len() {
-        let more = reader.read(&mut room[done..]).unwrap_or(0);
-        if more == 0 {
-            return done;
-        }
-        done += more;
-    }
-    done
+    fill(reader, room).0
 }
 
 // Reads the n bytes and the line end that come next in a file of run cases; false where they are not there. A room that is too short is
@@ -151,7 +163,7 @@ pub fn read_next<R: Read>(cases: &mut R, room: &mut [u8], n: usize) -> bool
 
 // The next run case of a file: its header is put in `head`, its name is printed, and its flow is put in `room`. Answers how many bytes the flow has; none where
 // there is no further case.
-pub fn next_case<R: Read>(
+fn next_case<R: Read>(
     rt: &HostRuntime,
     cases: &mut R,
     head: &mut [u8],
@@ -164,9 +176,6 @@ pub fn next_case<R: Read>(
     }
     print_name(rt, head);
     let n = length_in(head);
-    if room.len() <= n {
-        return None;
-    }
     if !read_next(cases, &mut *room, n) {
         return None;
     }
@@ -175,7 +184,7 @@ pub fn next_case<R: Read>(
 
 // Prints whether the bytes that a run case has left are the expected ones.
 pub fn print_comparison(rt: &HostRuntime, left: &[u8], expected: &[u8]) {
-    if amounts::same_bytes(left, expected) {
+    if left == expected {
         print_bytes(rt, b"SAME\n");
     } else {
         print_bytes(rt, b"DIFFERENT\n");

@@ -13,37 +13,22 @@ mod replacing;
 mod saving;
 
 pub use answers::{
-    print_changes, print_delega, print_examined, print_judgement, print_line, print_payments,
-    print_record, print_refusal,
+    print_changes, print_counted, print_delega, print_examined, print_judgement, print_line,
+    print_payments, print_record, print_refusal,
 };
 pub use cases::{
-    mark, next_case, numbers_of, open_cases, print_comparison, put_numbers, read_full, read_next,
+    mark, numbers_of, open_cases, print_comparison, put_numbers, read_full, read_next, run_cases,
 };
-pub use messages::{begin_line, misused, no_number, no_portion};
-pub use output::{print_bytes, print_decimal};
-pub use reading::{
-    LONGEST_NAME, Source, count_words, name_at, number_at, open_named, path_at, read_flow,
-    read_open, read_word, text_of, word_at,
-};
-pub use replacing::{open_old, replace};
-pub use saving::{
-    create, create_beside, is_link, put_name, remove, rename, stored, tell_of, unsaved,
-};
-use std::fs::File;
+pub use output::print_bytes;
+pub use reading::{LONGEST_NAME, Source, count_words, path_at, text_of, word_at};
+pub use replacing::Target;
+pub use saving::{create, create_beside, known_of, put_name, remove, rename, stored};
 
-// Whose a file is, and who may use it.
+// A command of the desk: its name, as the clerk types it, and the handle by which it runs.
 #[derive(Clone, Copy)]
-pub struct Access {
-    pub owner: u32,
-    pub group: u32,
-    pub mode: u32,
-}
-
-// A file that is to be replaced by another: it is open, and its access.
-#[derive(Drop)]
-pub struct Old {
-    pub file: File,
-    pub access: Access,
+pub struct Command<'a> {
+    pub rt: &'a HostRuntime,
+    pub name: &'a str,
 }
 
 // The five numbers of a run case's call.
@@ -56,8 +41,10 @@ pub struct Numbers {
     pub fifth: u64,
 }
 
-// No file of run cases has more.
-pub const MOST_CASES: usize = 10000;
+// The header of a run case that has a name and a length, and of one that has the five numbers of a call between them.
+pub const FLOW_HEADER: usize = 48;
+
+pub const CALL_HEADER: usize = 153;
 
 // What stands in the list of a run case before the call: numbers that no call writes, each its own, so that one that moved, or that is told and not listed, is seen.
 pub const FIRST_MARK: u64 = 9_000_000_000;

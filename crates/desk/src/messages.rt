@@ -1,10 +1,12 @@
 // One line on standard error for what went wrong, in the name of the command that the clerk typed. Where standard error takes nothing, nobody can be told.
-use crate::reading::word_at;
+use crate::Command;
+use crate::reading::{number_at, word_at};
+use args::Argument;
 use std::fmt::InlineText;
 use std::io;
 
 // Writes bytes to standard error.
-pub fn tell(rt: &HostRuntime, bytes: &[u8]) {
+fn tell(rt: &HostRuntime, bytes: &[u8]) {
     let _ = rt.stderr().write_all(bytes);
 }
 
@@ -16,31 +18,16 @@ fn words_of(text: &str) -> &str {
     }
 }
 
+// The end of a line on standard error: the system's reason.
+fn end_with(rt: &HostRuntime, why: io::Error) {
+    let text = InlineText::<120>::of(why);
+    let _ = eprintln!(rt; ": {}", words_of(text.as_str()));
+}
+
 // A line on standard error: what failed, and the system's reason.
 pub fn fail(rt: &HostRuntime, what: &[u8], why: io::Error) {
-    let text = InlineText::<120>::of(why);
     tell(rt, what);
-    tell(rt, b": ");
-    tell(rt, words_of(text.as_str()).as_bytes());
-    tell(rt, b"\n");
-}
-
-// The start of a line on standard error: the command as a clerk types it.
-pub fn begin_line(rt: &HostRuntime, command: &[u8]) {
-    tell(rt, b"./f24 ");
-    tell(rt, command);
-    tell(rt, b": ");
-}
-
-// One line on standard error: what was wrong, and how the command is used.
-pub fn misused(rt: &HostRuntime, command: &[u8], what: &[u8], usage: &[u8]) {
-    begin_line(rt, command);
-    tell(rt, what);
-    tell(rt, b"; usage: ./f24 ");
-    tell(rt, command);
-    tell(rt, b" ");
-    tell(rt, usage);
-    tell(rt, b"\n");
+    end_with(rt, why);
 }
 
 // The end of a line on standard error: the word of an argument, where it is short.
@@ -54,20 +41,70 @@ fn end_line(rt: &HostRuntime, i: usize) {
     tell(rt, b"\n");
 }
 
-// One line on standard error for an argument that is no number: its name, what a number is, and the word itself where it is short.
-pub fn no_number(rt: &HostRuntime, command: &[u8], name: &[u8], i: usize) {
-    begin_line(rt, command);
-    tell(rt, name);
-    tell(
-        rt,
-        b" must be a number in digits, at most 18446744073709551615",
-    );
-    end_line(rt, i);
-}
+impl Command<'_> {
+    // The start of a line on standard error: the command as a clerk types it.
+    fn begin_line(&self) {
+        let _ = eprint!(self.rt; "./f24 {}: ", self.name);
+    }
 
-// One line on standard error for a portion of zero, with the word itself.
-pub fn no_portion(rt: &HostRuntime, command: &[u8], i: usize) {
-    begin_line(rt, command);
-    tell(rt, b"a portion is a number above zero");
-    end_line(rt, i);
+    // One line on standard error: what was wrong, and how the command is used.
+    pub fn misused(&self, what: &str, usage: &str) {
+        let name = self.name;
+        let _ = eprintln!(self.rt; "./f24 {name}: {what}; usage: ./f24 {name} {usage}");
+    }
+
+    // One line on standard error about the named file.
+    pub fn tell_of(&self, path: &[u8], what: &str) {
+        self.begin_line();
+        tell(self.rt, path);
+        let _ = eprintln!(self.rt; "{what}");
+    }
+
+    // One line on standard error where a flow could not be saved under the name, with the system's reason.
+    pub fn unsaved(&self, path: &[u8], what: &str, why: io::Error) {
+        self.begin_line();
+        tell(self.rt, path);
+        fail(self.rt, what.as_bytes(), why);
+    }
+
+    // One line on standard error where a file was replaced, and its owner or group could not be kept.
+    pub fn tell_yours(&self, path: &[u8], done: &str) {
+        self.begin_line();
+        tell(self.rt, path);
+        let _ = eprintln!(self.rt;
+            " is {done}, and is now yours: its owner or group could not be kept"
+        );
+    }
+
+    // One line on standard error for what could not be read, with the system's reason.
+    pub fn unread(&self, what: &[u8], why: io::Error) {
+        self.begin_line();
+        tell(self.rt, b"cannot read ");
+        fail(self.rt, what, why);
+    }
+
+    // One line on standard error for an argument that is no number: its name, what a number is, and the word itself where it is short.
+    fn no_number(&self, name: &str, i: usize) {
+        self.begin_line();
+        let _ = eprint!(self.rt; "{name} must be a number in digits, at most {}", u64::MAX);
+        end_line(self.rt, i);
+    }
+
+    // The i-th argument as a number. Where it is none, one line on standard error says so, in which it goes by its name in the usage.
+    pub fn number_at(&self, name: &str, i: usize) -> Option<u64> {
+        match number_at(self.rt, i) {
+            Argument::Number(n) => Some(n),
+            Argument::NoNumber => {
+                self.no_number(name, i);
+                None
+            }
+        }
+    }
+
+    // One line on standard error for a portion of zero, with the word itself.
+    pub fn no_portion(&self, i: usize) {
+        self.begin_line();
+        tell(self.rt, b"a portion is a number above zero");
+        end_line(self.rt, i);
+    }
 }

@@ -1,8 +1,9 @@
 // Arguments, what they name, and a flow read whole.
 ghost use Rattle.std.specs.Prelude.{◌≤◌, length, IfOk, IfSome};
 
-use crate::messages::{begin_line, fail, tell};
+use crate::Command;
 use args::Argument;
+use layout::Flow;
 use std::env::FillError;
 use std::fs::File;
 use std::io::{Read, Stdin};
@@ -50,10 +51,7 @@ pub fn count_words(rt: &HostRuntime) -> usize {
 pub fn word_at(rt: &HostRuntime, i: usize, room: &mut [u8]) -> usize
     ensures { result ≤ length room.old }
 {
-    match rt.arg(i, &mut *room) {
-        Ok(n) => n,
-        Err(_) => 0,
-    }
+    rt.arg(i, &mut *room).unwrap_or(0)
 }
 
 // Why an argument is not in a room, as the system has it.
@@ -68,18 +66,12 @@ fn why_not(missing: FillError) -> io::Error {
 pub fn path_at(rt: &HostRuntime, i: usize, room: &mut [u8]) -> io::Result<usize>
     ensures { IfOk result (λ n. n ≤ length room.old) }
 {
-    match rt.arg(i, &mut *room) {
-        Ok(n) => Ok(n),
-        Err(missing) => Err(why_not(missing)),
-    }
+    rt.arg(i, &mut *room).map_err(why_not)
 }
 
 // A name as the library asks the system for it.
 pub fn text_of(path: &[u8]) -> io::Result<&str> {
-    match str::from_utf8(path) {
-        Ok(text) => Ok(text),
-        Err(_) => Err(io::Error::from_raw_os_error(NO_TEXT)),
-    }
+    str::from_utf8(path).map_err(|_| io::Error::from_raw_os_error(NO_TEXT))
 }
 
 // The i-th argument as a number. Of a missing word, and of one of more than twenty bytes, `word_at` gives no byte, and an empty word is no number.
@@ -91,45 +83,7 @@ pub fn number_at(rt: &HostRuntime, i: usize) -> Argument {
 
 // Whether a word stands for standard input.
 fn is_dash(word: &[u8]) -> bool {
-    if word.len() == 1 {
-        return word[0] == b'-';
-    }
-    false
-}
-
-// One line on standard error for what could not be read, with the system's reason.
-fn unread(rt: &HostRuntime, command: &[u8], word: &[u8], why: io::Error) {
-    begin_line(rt, command);
-    tell(rt, b"cannot read ");
-    if is_dash(word) {
-        fail(rt, b"standard input", why);
-    } else {
-        fail(rt, word, why);
-    }
-}
-
-// Puts the word of the i-th argument into the room and answers its length; a word that is missing is -. None, with one line on standard error, where the room
-// is too short for the word, which then goes by its name in the usage.
-pub fn name_at(
-    rt: &HostRuntime,
-    command: &[u8],
-    name: &[u8],
-    i: usize,
-    room: &mut [u8],
-) -> Option<usize>
-    ensures { IfSome result (λ n. n ≤ length room.old) }
-{
-    match rt.arg(i, &mut *room) {
-        Ok(n) => Some(n),
-        Err(FillError::NotPresent) if 0 < room.len() => {
-            room[0] = b'-';
-            Some(1)
-        }
-        Err(missing) => {
-            unread(rt, command, name, why_not(missing));
-            None
-        }
-    }
+    word == b"-".as_slice()
 }
 
 // A file that is open for reading.
@@ -137,81 +91,99 @@ pub fn opened(rt: &HostRuntime, path: &[u8]) -> io::Result<File> {
     File::open(rt, text_of(path)?)
 }
 
-// Opens what a word names: a file, or standard input for -. None, with one line on standard error, where it cannot be opened.
-pub fn open_named(rt: &HostRuntime, command: &[u8], word: &[u8]) -> Option<Source> {
-    if is_dash(word) {
-        return Some(Source::Input(rt.stdin()));
-    }
-    match opened(rt, word) {
-        Ok(file) => Some(Source::Named(file)),
-        Err(why) => {
-            unread(rt, command, word, why);
-            None
-        }
-    }
-}
-
-// Reads to the end, or until the room is full, and answers how many bytes it put there; the reason where a read fails. Nothing is read after an end, so that a
-// clerk who types a flow ends it once.
-fn read_to_end<R: Read>(reader: &mut R, room: &mut [u8]) -> io::Result<usize>
-    ensures { IfOk result (λ n. n ≤ length room.old) }
+// Reads until the room is full, the input ends or a read fails, and answers how many bytes it put there, and whether no read failed. Nothing is read after an end, so
+// that a clerk who types a flow ends it once.
+pub fn fill<R: Read>(reader: &mut R, room: &mut [u8]) -> (usize, io::Result<()>)
+    ensures { result.0 ≤ length room.old }
 {
     let mut done: usize = 0;
     while done < room.len() {
-        let more = reader.read(&mut room[done..])?;
-        if more == 0 {
-            return Ok(done);
-        }
-        done += more;
-    }
-    Ok(done)
-}
-
-// Reads what is open and goes by the word, as `read_to_end` does; where a read fails, one line on standard error says so.
-pub fn read_open<R: Read>(
-    rt: &HostRuntime,
-    command: &[u8],
-    word: &[u8],
-    reader: &mut R,
-    room: &mut [u8],
-) -> Option<usize>
-    ensures { IfSome result (λ n. n ≤ length room.old) }
-{
-    match read_to_end(reader, room) {
-        Ok(n) => Some(n),
-        Err(why) => {
-            unread(rt, command, word, why);
-            None
+        match reader.read(&mut room[done..]) {
+            Ok(0) => return (done, Ok(())),
+            Ok(more) => done += more,
+            Err(why) => return (done, Err(why)),
         }
     }
+    (done, Ok(()))
 }
 
-// Reads what a word names. None, with one line on standard error, where it cannot be read.
-fn read_named(rt: &HostRuntime, command: &[u8], word: &[u8], room: &mut [u8]) -> Option<usize>
-    ensures { IfSome result (λ n. n ≤ length room.old) }
-{
-    let mut source = open_named(rt, command, word)?;
-    read_open(rt, command, word, &mut source, room)
-}
+impl Command<'_> {
+    // One line on standard error for what a word names and could not be read, with the system's reason.
+    fn unread_word(&self, word: &[u8], why: io::Error) {
+        if is_dash(word) {
+            self.unread(b"standard input", why);
+        } else {
+            self.unread(word, why);
+        }
+    }
 
-// Reads what the i-th argument names; a word that is missing is standard input. None, with one line on standard error, where it cannot be read.
-pub fn read_word(
-    rt: &HostRuntime,
-    command: &[u8],
-    name: &[u8],
-    i: usize,
-    room: &mut [u8],
-) -> Option<usize>
-    ensures { IfSome result (λ n. n ≤ length room.old) }
-{
-    let mut word = [0u8; LONGEST_NAME];
-    let n = name_at(rt, command, name, i, &mut word)?;
-    read_named(rt, command, &word[..n], room)
-}
+    // Puts the word of the i-th argument into the room and answers its length; a word that is missing is -. None, with one line on standard error, where the room
+    // is too short for the word, which then goes by its name in the usage.
+    pub fn name_at(&self, name: &str, i: usize, room: &mut [u8]) -> Option<usize>
+        ensures { IfSome result (λ n. n ≤ length room.old) }
+    {
+        match self.rt.arg(i, &mut *room) {
+            Ok(n) => Some(n),
+            Err(FillError::NotPresent) if 0 < room.len() => {
+                room[0] = b'-';
+                Some(1)
+            }
+            Err(missing) => {
+                self.unread_word(name.as_bytes(), why_not(missing));
+                None
+            }
+        }
+    }
 
-// Reads the flow that the i-th argument names, as `read_word` does.
-pub fn read_flow(rt: &HostRuntime, command: &[u8], i: usize, room: &mut [u8]) -> Option<usize>
-    ensures { IfSome result (λ n. n ≤ length room.old) }
-{
-    read_word(rt, command, b"FILE", i, room)
+    // Opens what a word names: a file, or standard input for -. None, with one line on standard error, where it cannot be opened.
+    pub fn open_named(&self, word: &[u8]) -> Option<Source> {
+        if is_dash(word) {
+            return Some(Source::Input(self.rt.stdin()));
+        }
+        match opened(self.rt, word) {
+            Ok(file) => Some(Source::Named(file)),
+            Err(why) => {
+                self.unread_word(word, why);
+                None
+            }
+        }
+    }
+
+    // Reads what is open and goes by the word to its end, or until the room is full, and answers how many bytes it put there; where a read fails, one line on standard
+    // error says so.
+    pub fn read_open<R: Read>(&self, word: &[u8], reader: &mut R, room: &mut [u8]) -> Option<usize>
+        ensures { IfSome result (λ n. n ≤ length room.old) }
+    {
+        let (n, read) = fill(reader, room);
+        match read {
+            Ok(()) => Some(n),
+            Err(why) => {
+                self.unread_word(word, why);
+                None
+            }
+        }
+    }
+
+    // Reads what the i-th argument names; a word that is missing is standard input. None, with one line on standard error, where it cannot be read.
+    pub fn read_word(&self, name: &str, i: usize, room: &mut [u8]) -> Option<usize>
+        ensures { IfSome result (λ n. n ≤ length room.old) }
+    {
+        let mut word = [0u8; LONGEST_NAME];
+        let n = self.name_at(name, i, &mut word)?;
+        let word = &word[..n];
+        let mut source = self.open_named(word)?;
+        self.read_open(word, &mut source, room)
+    }
+
+    // Reads the flow that the i-th argument names, as `read_word` does, and hands it to an act. The room holds one byte more than the longest flow, so that a longer one is
+    // refused.
+    pub fn with_flow<F: FnOnce(&mut [u8])>(&self, i: usize, act: F)
+        requires { F.IsAlwaysCallable act }
+    {
+        // Kept: no heap: the flow lies in a room of fixed length, and beside it how much of it there is.
+        let mut room = [0u8; Flow::MOST_BYTES + 1];
+        if let Some(n) = self.read_word("FILE", i, &mut room) {
+            act(&mut room[..n]);
+        }
+    }
 }

@@ -1,37 +1,16 @@
 // A flow saved in a file: what the programs that save one have in common.
 ghost use Rattle.std.specs.Prelude.{◌≡◌, ◌-◌, ◌≤◌, length, take};
 
-use crate::messages::{begin_line, fail, tell};
 use crate::reading::{NO_ARGUMENT, text_of};
-use std::fs::{File, OpenOptions};
+use std::fs::{File, Metadata, OpenOptions};
 use std::io::{ErrorKind, Write};
 use std::os::unix::fs::OpenOptionsExt;
 use std::random::RandomSource;
 use std::{fs, io};
 
-// One line on standard error about the named file.
-pub fn tell_of(rt: &HostRuntime, command: &[u8], path: &[u8], what: &[u8]) {
-    begin_line(rt, command);
-    tell(rt, path);
-    tell(rt, what);
-}
-
-// One line on standard error where a flow could not be saved under the name, with the system's reason.
-pub fn unsaved(rt: &HostRuntime, command: &[u8], path: &[u8], what: &[u8], why: io::Error) {
-    begin_line(rt, command);
-    tell(rt, path);
-    fail(rt, what, why);
-}
-
-// Whether a path names a link.
-pub fn is_link(rt: &HostRuntime, path: &[u8]) -> bool {
-    let Ok(path) = text_of(path) else {
-        return false;
-    };
-    match fs::symlink_metadata(rt, path) {
-        Ok(known) => known.is_symlink(),
-        Err(_) => false,
-    }
+// What the system knows of what has a name: of a link itself, and not of the file behind it.
+pub fn known_of(rt: &HostRuntime, path: &[u8]) -> io::Result<Metadata> {
+    fs::symlink_metadata(rt, text_of(path)?)
 }
 
 // The name of a new file: that of the file to be saved with a dot and six characters behind it, which `create_beside` chooses. It is empty where
@@ -40,10 +19,7 @@ pub fn put_name(room: &mut [u8], path: &[u8]) -> usize
     ensures within { result ≤ length room.new }
     ensures cut { result ≡ length (take result room.new) }
 {
-    if room.len() < 7 {
-        return 0;
-    }
-    if room.len() - 7 < path.len() {
+    if room.len() < 7 || room.len() - 7 < path.len() {
         return 0;
     }
     text::put_part(&mut *room, 0, path);
@@ -65,13 +41,8 @@ fn choose(rt: &HostRuntime, name: &mut [u8]) -> io::Result<()>
 {
     let mut chances = [0u8; 6];
     rt.fill_bytes(&mut chances)?;
-    let mut i: usize = 0;
-    while i < 6 {
-        if i < name.len() {
-            let at = name.len() - 1 - i;
-            name[at] = letter(chances[i]);
-        }
-        i += 1;
+    if let Some(end) = name.last_chunk_mut::<6>() {
+        *end = chances.map(letter);
     }
     Ok(())
 }

@@ -14,7 +14,7 @@ fn shorten(flow: &mut [u8], numbers: &[u64]) -> usize
     ensures { (result ≡ length (shortened flow.old numbers.now))
         × (flow.new ≡ spaced (shortened flow.old numbers.now) (length flow.old)) }
 {
-    let n = close::close_up(&mut *flow, numbers);
+    let n = close::close_up(flow, numbers);
     rebalance::rebalance(&mut flow[..n]);
     n
 }
@@ -34,7 +34,7 @@ fn weigh(flow: &mut [u8], numbers: &[u64], deleghe: u64) -> Result<usize, Refusa
     if all {
         return Err(Refusal::NO_DELEGA_LEFT);
     }
-    Ok(shorten(&mut *flow, numbers))
+    Ok(shorten(flow, numbers))
 }
 
 // Drops the deleghe that a list names from a flow: the flow is closed up over them, the rest are numbered from 1, the tail is set, and spaces fill the room behind it. The answer is the new
@@ -45,5 +45,5 @@ pub fn drop_deleghe(flow: &mut [u8], numbers: &[u64]) -> Result<usize, Refusal>
 {
     let judgement = judge::judge(flow);
     judgement.verdict?;
-    weigh(&mut *flow, numbers, judgement.summary.deleghe)
+    weigh(flow, numbers, judgement.summary.deleghe)
 }

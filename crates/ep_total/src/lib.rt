@@ -24,10 +24,9 @@ fn put_group(room: &mut [u8], at: usize, n: u64) -> usize
     requires { (at + 4 ≤ length room.old) × (n < 1000) }
     ensures { Appended at (dot ∷ digits_of 3 n) 4 room.old room.new result }
 {
-    let digits = printing::put_byte(&mut *room, at, b'.');
-    let end = digits + 3;
-    text::put_number(&mut *room, digits, 3, n);
-    end
+    let digits = printing::put_byte(room, at, b'.');
+    text::put_number(room, digits, 3, n);
+    digits + 3
 }
 
 // A number below a million with a dot behind its thousands.
@@ -36,10 +35,11 @@ fn put_thousands(room: &mut [u8], at: usize, n: u64) -> usize
     ensures { Appended at (dotted n) 24 room.old room.new result }
 {
     if n < 1000 {
-        return printing::put_decimal(&mut *room, at, n);
+        printing::put_decimal(room, at, n)
+    } else {
+        let end = printing::put_decimal(room, at, n / 1000);
+        put_group(room, end, n % 1000)
     }
-    let end = printing::put_decimal(&mut *room, at, n / 1000);
-    put_group(&mut *room, end, n % 1000)
 }
 
 // A number below a thousand millions with its dots.
@@ -48,10 +48,11 @@ fn put_dotted(room: &mut [u8], at: usize, n: u64) -> usize
     ensures { Appended at (dotted n) 28 room.old room.new result }
 {
     if n < 1000000 {
-        return put_thousands(&mut *room, at, n);
+        put_thousands(room, at, n)
+    } else {
+        let end = put_thousands(room, at, n / 1000);
+        put_group(room, end, n % 1000)
     }
-    let end = put_thousands(&mut *room, at, n / 1000);
-    put_group(&mut *room, end, n % 1000)
 }
 
 // The euros of a total: with dots, unless the total would have more than fifteen characters with them.
@@ -60,9 +61,10 @@ fn put_euros(room: &mut [u8], at: usize, n: u64) -> usize
     ensures { Appended at (euro_text n) 28 room.old room.new result }
 {
     if n < 1000000000 {
-        return put_dotted(&mut *room, at, n);
+        put_dotted(room, at, n)
+    } else {
+        printing::put_decimal(room, at, n)
     }
-    printing::put_decimal(&mut *room, at, n)
 }
 
 // The text of a total at the start of a room; the answer is the index after it.
@@ -70,11 +72,10 @@ fn put_total(room: &mut [u8], n: u64) -> usize
     requires { 31 ≤ length room.old }
     ensures { Appended 0 (total_text n) 31 room.old room.new result }
 {
-    let comma = put_euros(&mut *room, 0, n / 100);
-    let cents = printing::put_byte(&mut *room, comma, b',');
-    let end = cents + 2;
-    text::put_number(&mut *room, cents, 2, n % 100);
-    end
+    let comma = put_euros(room, 0, n / 100);
+    let cents = printing::put_byte(room, comma, b',');
+    text::put_number(room, cents, 2, n % 100);
+    cents + 2
 }
 
 // A number with one more digit, where a byte is one.
@@ -82,13 +83,11 @@ fn with_digit(n: u64, b: u8) -> u64
     requires { n < 100000000000000 }
     ensures { result ≡ with_digit n b }
 {
-    if b < 48 {
-        return n;
+    if b.is_ascii_digit() {
+        n * 10 + u64::from(b - b'0')
+    } else {
+        n
     }
-    if 57 < b {
-        return n;
-    }
-    n * 10 + (b - 48) as u64
 }
 
 // The number that the digits of a part say, whatever stands between them.
@@ -97,10 +96,8 @@ fn digits_in(part: &[u8]) -> u64
     ensures { result ≡ digits_in 0 part.now }
 {
     let mut n: u64 = 0;
-    let mut i: usize = 0;
-    while i < part.len() {
-        n = with_digit(n, part[i]);
-        i += 1;
+    for &b in part {
+        n = with_digit(n, b);
     }
     n
 }
@@ -115,11 +112,9 @@ pub fn read_total(part: &[u8]) -> Total
     let n = digits_in(part);
     let mut room = [b' '; ROOM];
     let end = put_total(&mut room, n);
-    if TOTAL < end {
-        return Total::NoTotal;
+    if end <= TOTAL && part == &room[..TOTAL] {
+        Total::Cents(n)
+    } else {
+        Total::NoTotal
     }
-    if text::same_bytes(part, &room[..TOTAL]) {
-        return Total::Cents(n);
-    }
-    Total::NoTotal
 }

@@ -17,16 +17,7 @@ fn is_line(delega: u64, section: usize, nth: u64, at: Stage, opened: u64, kind: 
     requires { at.lines < 1000 }
     ensures { result ≡ is_line delega section nth at opened kind }
 {
-    let Kind::Line(s) = kind else {
-        return false;
-    };
-    if s != section {
-        return false;
-    }
-    if opened != delega {
-        return false;
-    }
-    at.lines + 1 == nth
+    matches!(kind, Kind::Line(s) if s == section) && opened == delega && at.lines + 1 == nth
 }
 
 // The number of the line's record in a flow of at most 546 records, or 0 where there is no such line.
@@ -34,23 +25,19 @@ fn line_in(flow: &[u8], delega: u64, section: usize, nth: u64) -> usize
     requires { length flow.now ≤ 65520 }
     ensures { result ≡ line_from delega section nth (stage_at at_start 0 0) 0 0 (records_of flow.now) }
 {
-    let count = flow.len() / Flow::RECORD;
     let mut at = Stage {
         phase: Stage::START,
         section: 0,
         lines: 0,
     };
     let mut opened: u64 = 0;
-    let mut k: usize = 0;
-    while k < count {
-        let rec = records::record_at(flow, k * Flow::RECORD);
+    for (k, rec) in flow.chunks_exact(Flow::RECORD).enumerate() {
         let kind = records::kind_in(rec);
         if is_line(delega, section, nth, at, opened, kind) {
             return k + 1;
         }
         at = order::next_stage(at, kind);
         opened = rules::next_deleghe(opened, kind);
-        k += 1;
     }
     0
 }

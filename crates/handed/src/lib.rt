@@ -23,23 +23,12 @@ fn course_numbers(course: Course) -> [u64; 4]
 fn course_of(stands: u64, number: u64, at: u64, position: u64) -> Course
     ensures { result ≡ course_of stands number at position }
 {
-    if stands == 1 {
-        return Course::Going;
+    match stands {
+        1 => Course::Going,
+        2 => Course::Accepted,
+        3 => Course::Refused(number, at as usize, position as usize),
+        _ => Course::Foreign,
     }
-    if stands == 2 {
-        return Course::Accepted;
-    }
-    if stands == 3 {
-        return Course::Refused(number, at as usize, position as usize);
-    }
-    Course::Foreign
-}
-
-// A byte as a number.
-fn wide(b: u8) -> u64
-    ensures { result ≡ b }
-{
-    b as u64
 }
 
 // One of the numbers that are handed back: four of how it stands, 29 of the state, 20 of the name.
@@ -48,16 +37,13 @@ fn number_at(x: Progress, i: usize) -> u64
     ensures { result ≡ get_or (progress_numbers x) i 0 }
 {
     if i < 4 {
-        let course = x.course;
-        let stands = course_numbers(course);
+        let stands = course_numbers(x.course);
         return stands[i];
     }
     if i < 33 {
-        let kept = x.kept;
-        return kept[i - 4];
+        return x.kept[i - 4];
     }
-    let name = x.name;
-    wide(name[i - 33])
+    u64::from(x.name[i - 33])
 }
 
 // What is handed back, as numbers.
@@ -65,10 +51,8 @@ pub fn progress_numbers(x: Progress) -> [u64; 53]
     ensures { result ≡ progress_numbers x }
 {
     let mut numbers = [0u64; 53];
-    let mut i: usize = 0;
-    while i < 53 {
+    for i in 0..53 {
         numbers[i] = number_at(x, i);
-        i += 1;
     }
     numbers
 }
@@ -79,10 +63,8 @@ fn name_in(numbers: &[u64]) -> [u8; 20]
     ensures { result ≡ numbers.now }
 {
     let mut name = [0u8; 20];
-    let mut i: usize = 0;
-    while i < 20 {
+    for i in 0..20 {
         name[i] = numbers[i] as u8;
-        i += 1;
     }
     name
 }
@@ -93,7 +75,7 @@ fn kept_in(numbers: &[u64]) -> [u64; 29]
     ensures { result ≡ numbers.now }
 {
     let mut kept = [0u64; 29];
-    state::put(&mut kept, numbers);
+    kept.copy_from_slice(numbers);
     kept
 }
 

@@ -1,4 +1,5 @@
 pub mod Records
+pub mod Chunked
 pub mod Turn
 mod NumberedTurn
 mod WaysOut

@@ -49,11 +49,12 @@ pub fn keep(flow: &[u8]) -> Keeping
     ensures { result ≡ keeping flow.now }
 {
     let judgement = judge::judge(flow);
-    let verdict = judgement.verdict;
-    let summary = judgement.summary;
-    let sums = summary.sums;
-    let kept = KeptSums { sums };
-    Keeping { verdict, kept }
+    Keeping {
+        verdict: judgement.verdict,
+        kept: KeptSums {
+            sums: judgement.summary.sums,
+        },
+    }
 }
 
 // The refusal of a call whose record is not the flow's.
@@ -68,9 +69,7 @@ struct Mismatch {
 fn strict_mismatch(flow: &[u8]) -> Mismatch
     ensures { result ≡ mismatch_of (refusal_of (judged flow.now).verdict) }
 {
-    let judgement = judge::judge(flow);
-    let verdict = judgement.verdict;
-    match verdict {
+    match judge::judge(flow).verdict {
         Verdict::Accepted => Mismatch {
             number: 29,
             at: 0,
@@ -122,7 +121,7 @@ pub fn correct_kept(
             kept,
         };
     }
-    let answer = correct::correct(&mut *flow, delega, subtype, nth, debit, credit);
+    let answer = correct::correct(flow, delega, subtype, nth, debit, credit);
     if let Correction::Made = answer {
         let fresh = sums::of_lines(flow);
         return CorrectionKept {
@@ -146,7 +145,7 @@ pub fn rebalance_kept(flow: &mut [u8], list: &mut [u64], kept: KeptSums) -> Mend
             kept,
         };
     }
-    let answer = mend::mend(&mut *flow, &mut *list);
+    let answer = mend::mend(flow, list);
     MendingKept { answer, kept }
 }
 
@@ -162,7 +161,7 @@ pub fn drop_kept(flow: &mut [u8], numbers: &[u64], kept: KeptSums) -> DroppingKe
             kept,
         };
     }
-    let answer = dropping::drop_deleghe(&mut *flow, numbers);
+    let answer = dropping::drop_deleghe(flow, numbers);
     if let Dropping::Dropped(length) = answer {
         let left = sums::of_lines(&flow[..length]);
         return DroppingKept { answer, kept: left };

@@ -1,5 +1,5 @@
 // The numeric fields of each kind of record, in the order of position.
-ghost use Rattle.std.specs.Prelude.{◌≡◌, [], ◌∷◌, ◌≤◌};
+ghost use Rattle.std.specs.Prelude.{◌≡◌, [], ◌∷◌, ◌≤◌, length};
 ghost use Rattle.layout.specs.Fields.{fields_of, listed, amount_at};
 
 use crate::{Amount, Field, Fields, Kind, Position, section_at};
@@ -48,52 +48,53 @@ pub const TAIL_RECORDS: Field = Field {
 
 const NOWHERE: Field = Field { start: 0, end: 0 };
 
-// No field, and up to three: what the code hands out for a record.
+// The fields of a record, at most four, as the code hands them out.
+pub fn listed(list: &[Field]) -> Fields
+    requires { length list.now ≤ 4 }
+    ensures { result ≡ listed list.now }
+{
+    let mut fields = [NOWHERE; 4];
+    fields[..list.len()].copy_from_slice(list);
+    Fields {
+        count: list.len(),
+        fields,
+    }
+}
+
+// The same of no field, and of one, two and three.
 pub fn no_fields() -> Fields
     ensures { result ≡ listed [] }
 {
-    Fields {
-        count: 0,
-        fields: [NOWHERE, NOWHERE, NOWHERE, NOWHERE],
-    }
+    listed(&[])
 }
 
 pub fn one_field(a: Field) -> Fields
     ensures { result ≡ listed (a ∷ []) }
 {
-    Fields {
-        count: 1,
-        fields: [a, NOWHERE, NOWHERE, NOWHERE],
-    }
+    listed(&[a])
 }
 
 pub fn two_fields(a: Field, b: Field) -> Fields
     ensures { result ≡ listed (a ∷ b ∷ []) }
 {
-    Fields {
-        count: 2,
-        fields: [a, b, NOWHERE, NOWHERE],
-    }
+    listed(&[a, b])
 }
 
 pub fn three_fields(a: Field, b: Field, c: Field) -> Fields
     ensures { result ≡ listed (a ∷ b ∷ c ∷ []) }
 {
-    Fields {
-        count: 3,
-        fields: [a, b, c, NOWHERE],
-    }
+    listed(&[a, b, c])
 }
 
 fn line_fields(s: usize) -> Fields
     ensures { result ≡ listed (fields_of (Kind.Line s)) }
 {
     let section = section_at(s);
-    three_fields(
+    listed(&[
         DELEGA_NUMBER,
         amount_at(section.debit),
         amount_at(section.credit),
-    )
+    ])
 }
 
 fn balance_fields(s: usize) -> Fields
@@ -104,12 +105,9 @@ fn balance_fields(s: usize) -> Fields
     if section.totals {
         let debit = amount_at(section.total_debit);
         let credit = amount_at(section.total_credit);
-        return Fields {
-            count: 4,
-            fields: [DELEGA_NUMBER, debit, credit, balance],
-        };
+        return listed(&[DELEGA_NUMBER, debit, credit, balance]);
     }
-    two_fields(DELEGA_NUMBER, balance)
+    listed(&[DELEGA_NUMBER, balance])
 }
 
 // The numeric fields of a kind of record, in the order of position.
@@ -117,15 +115,14 @@ pub fn fields_of(k: Kind) -> Fields
     ensures { result ≡ listed (fields_of k) }
 {
     match k {
-        Kind::Head => one_field(CREATION_DATE),
-        Kind::Taxpayer => one_field(DELEGA_NUMBER),
-        Kind::Domicile => one_field(DELEGA_NUMBER),
+        Kind::Head => listed(&[CREATION_DATE]),
         Kind::Line(s) => line_fields(s),
         Kind::Balance(s) => balance_fields(s),
-        Kind::Payment => two_fields(DELEGA_NUMBER, FINAL_BALANCE),
-        Kind::Receipt => one_field(DELEGA_NUMBER),
-        Kind::Addressee => one_field(DELEGA_NUMBER),
-        Kind::Tail => three_fields(TAIL_DELEGHE, TAIL_SUM, TAIL_RECORDS),
-        Kind::Unknown => no_fields(),
+        Kind::Payment => listed(&[DELEGA_NUMBER, FINAL_BALANCE]),
+        Kind::Taxpayer | Kind::Domicile | Kind::Receipt | Kind::Addressee => {
+            listed(&[DELEGA_NUMBER])
+        }
+        Kind::Tail => listed(&[TAIL_DELEGHE, TAIL_SUM, TAIL_RECORDS]),
+        Kind::Unknown => listed(&[]),
     }
 }

@@ -14,6 +14,7 @@ fn formed(kind: Kind, amounts: usize, at: usize) -> Form
 }
 
 // The type that two characters spell, as one number with the first one lowest: F4 is 0x3446, 10 0x3031, 20 0x3032, 40 0x3034, 50 0x3035, EF 0x4645.
+#[tactic(auto, unfolding(crate::specs::Kinds::type_of, crate::specs::Kinds::same))]
 pub fn type_by(word: u64) -> RecordType
     ensures { result ≡ type_of (word % 256) (word / 256) }
 {
@@ -29,45 +30,36 @@ pub fn type_by(word: u64) -> RecordType
 }
 
 // The lines and balances of the sections, by the characters of the subtype and in the order of the paper form; of which kind they are is the section decision's.
+#[tactic(auto, unfolding(crate::specs::Forms::form_of, text::specs::Numbers::number_from, crate::specs::Kinds::section_kind_from, crate::specs::Sections::section_at))]
 fn section_form(a: u8, b: u8) -> Form
     ensures { result ≡ form_of (kind_of T40 (number_of (a ∷ b ∷ []))) }
 {
-    if a == b'0' {
-        return match b {
-            b'1' => formed(section_kind(1), 2, 27 - 1),
-            b'2' => formed(section_kind(2), 3, 13 - 1),
-            b'3' => formed(section_kind(3), 2, 52 - 1),
-            b'4' => formed(section_kind(4), 3, 13 - 1),
-            b'5' => formed(section_kind(5), 2, 29 - 1),
-            b'6' => formed(section_kind(6), 3, 15 - 1),
-            b'7' => formed(section_kind(7), 2, 31 - 1),
-            b'8' => formed(section_kind(8), 3, 17 - 1),
-            _ => formed(Kind::Unknown, 0, 0),
-        };
+    match (a, b) {
+        (b'0', b'1') => formed(section_kind(1), 2, 27 - 1),
+        (b'0', b'2') => formed(section_kind(2), 3, 13 - 1),
+        (b'0', b'3') => formed(section_kind(3), 2, 52 - 1),
+        (b'0', b'4') => formed(section_kind(4), 3, 13 - 1),
+        (b'0', b'5') => formed(section_kind(5), 2, 29 - 1),
+        (b'0', b'6') => formed(section_kind(6), 3, 15 - 1),
+        (b'0', b'7') => formed(section_kind(7), 2, 31 - 1),
+        (b'0', b'8') => formed(section_kind(8), 3, 17 - 1),
+        (b'1', b'7') => formed(section_kind(17), 2, 41 - 1),
+        (b'1', b'8') => formed(section_kind(18), 1, 44 - 1),
+        _ => formed(Kind::Unknown, 0, 0),
     }
-    if a == b'1' {
-        return match b {
-            b'7' => formed(section_kind(17), 2, 41 - 1),
-            b'8' => formed(section_kind(18), 1, 44 - 1),
-            _ => formed(Kind::Unknown, 0, 0),
-        };
-    }
-    formed(Kind::Unknown, 0, 0)
 }
 
 // The payment, its receipt and the receipt's addressee, by the characters of the subtype.
+#[tactic(auto, unfolding(crate::specs::Forms::form_of, text::specs::Numbers::number_from, crate::specs::Kinds::payment_kind))]
 fn payment_form(a: u8, b: u8) -> Form
     ensures { result ≡ form_of (kind_of T50 (number_of (a ∷ b ∷ []))) }
 {
-    if a == b'0' {
-        return match b {
-            b'1' => formed(Kind::Payment, 1, Position::FINAL_BALANCE - 1),
-            b'2' => formed(Kind::Receipt, 0, 0),
-            b'3' => formed(Kind::Addressee, 0, 0),
-            _ => formed(Kind::Unknown, 0, 0),
-        };
+    match (a, b) {
+        (b'0', b'1') => formed(Kind::Payment, 1, Position::FINAL_BALANCE - 1),
+        (b'0', b'2') => formed(Kind::Receipt, 0, 0),
+        (b'0', b'3') => formed(Kind::Addressee, 0, 0),
+        _ => formed(Kind::Unknown, 0, 0),
     }
-    formed(Kind::Unknown, 0, 0)
 }
 
 // The form of a record, by the same numbers. Most records are of type 40.
@@ -92,19 +84,9 @@ pub fn form_in(rec: &[u8]) -> Form
 }
 
 // Whether a record of kind k carries the number of a delega.
+#[tactic(auto, unfolding(crate::specs::Kinds::numbered))]
 pub fn is_numbered(k: Kind) -> bool
     ensures { result ≡ numbered k }
 {
-    match k {
-        Kind::Head => false,
-        Kind::Taxpayer => true,
-        Kind::Domicile => true,
-        Kind::Line(_) => true,
-        Kind::Balance(_) => true,
-        Kind::Payment => true,
-        Kind::Receipt => true,
-        Kind::Addressee => true,
-        Kind::Tail => false,
-        Kind::Unknown => false,
-    }
+    !matches!(k, Kind::Head | Kind::Tail | Kind::Unknown)
 }

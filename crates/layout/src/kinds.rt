@@ -7,6 +7,7 @@ use crate::{Kind, Subtype};
 
 // A line: its section, and the subtype of the balance that closes it. A balance: its section. Any other number: none. Sections count from 0, as in the table, with which this agrees on
 // every number (`decision-is-table`).
+#[tactic(auto, unfolding(crate::specs::Decision::decided))]
 fn decide(subtype: u64) -> Option<Subtype>
     ensures { result ≡ decided subtype }
 {

@@ -10,7 +10,7 @@ ghost use Rattle.std.specs.Prelude.{◌≡◌};
 ghost use Rattle.layout.specs.Sections.{section_at};
 
 pub use columns::{
-    FINAL_BALANCE, TAIL_DELEGHE, TAIL_RECORDS, TAIL_SUM, amount_at, fields_of, no_fields,
+    FINAL_BALANCE, TAIL_DELEGHE, TAIL_RECORDS, TAIL_SUM, amount_at, fields_of, listed, no_fields,
     one_field, three_fields, two_fields,
 };
 pub use forms::{form_in, is_numbered, type_by};
@@ -177,36 +177,29 @@ pub const SECTIONS: [Section; 5] = [
 
 // The row of a section; past the table all is zero and nothing is allowed. The index is constant in each way out, since the compiler writes the
 // whole table into memory at every look-up by a variable index.
+#[tactic(auto, unfolding(crate::specs::Sections::section_at))]
 pub fn section_at(s: usize) -> Section
     ensures { result ≡ section_at s }
 {
-    if s == 0 {
-        return SECTIONS[0];
-    }
-    if s == 1 {
-        return SECTIONS[1];
-    }
-    if s == 2 {
-        return SECTIONS[2];
-    }
-    if s == 3 {
-        return SECTIONS[3];
-    }
-    if s == 4 {
-        return SECTIONS[4];
-    }
-    Section {
-        line_subtype: 0,
-        balance_subtype: 0,
-        debit: 0,
-        credit: 0,
-        totals: false,
-        total_debit: 0,
-        total_credit: 0,
-        sign: 0,
-        balance: 0,
-        most_lines: 0,
-        credit_allowed: false,
+    match s {
+        0 => SECTIONS[0],
+        1 => SECTIONS[1],
+        2 => SECTIONS[2],
+        3 => SECTIONS[3],
+        4 => SECTIONS[4],
+        _ => Section {
+            line_subtype: 0,
+            balance_subtype: 0,
+            debit: 0,
+            credit: 0,
+            totals: false,
+            total_debit: 0,
+            total_credit: 0,
+            sign: 0,
+            balance: 0,
+            most_lines: 0,
+            credit_allowed: false,
+        },
     }
 }
 

@@ -22,16 +22,9 @@ fn kept_count(k: Kind) -> usize
     ensures { result ≡ length (kept_fields k) }
 {
     match k {
-        Kind::Head => 1,
-        Kind::Taxpayer => 1,
-        Kind::Domicile => 1,
         Kind::Line(_) => 3,
-        Kind::Balance(_) => 1,
-        Kind::Payment => 1,
-        Kind::Receipt => 1,
-        Kind::Addressee => 1,
-        Kind::Tail => 0,
-        Kind::Unknown => 0,
+        Kind::Tail | Kind::Unknown => 0,
+        _ => 1,
     }
 }
 
@@ -41,11 +34,7 @@ fn digits_fault(rec: &[u8], kind: Kind) -> Result<(), Fault>
     ensures { result ≡ bad_fields (kept_fields kind) rec.now }
 {
     let fields = layout::fields_of(kind);
-    let list = fields.fields;
-    let count = kept_count(kind);
-    let mut f: usize = 0;
-    while f < count {
-        let field = list[f];
+    for &field in &fields.fields[..kept_count(kind)] {
         let said = records::read_field(rec, field);
         let Ok(_) = said else {
             return Err(Fault {
@@ -53,7 +42,6 @@ fn digits_fault(rec: &[u8], kind: Kind) -> Result<(), Fault>
                 position: records::non_digit_at(field, said),
             });
         };
-        f += 1;
     }
     Ok(())
 }
@@ -64,8 +52,7 @@ fn first_value(rec: &[u8], kind: Kind) -> u64
     ensures { result ≡ value_of rec.now (get_or (fields_of kind) 0 nowhere) }
 {
     let fields = layout::fields_of(kind);
-    let list = fields.fields;
-    match records::read_field(rec, list[0]) {
+    match records::read_field(rec, fields.fields[0]) {
         Ok(v) => v,
         Err(_) => 0,
     }
@@ -103,9 +90,6 @@ fn own_fault(st: State, name: &[u8], rec: &[u8], kind: Kind) -> Result<(), Fault
     requires { length rec.now ≡ 120 }
     ensures { result ≡ own_fault name.now st kind rec.now }
 {
-    let money = st.money;
-    let delega = money.delega;
-    let all = delega.all;
     match kind {
         Kind::Head => rules::head_record(rec, first_value(rec, kind)),
         Kind::Taxpayer => rules::code_fault(rules::has_code(rec)),
@@ -115,7 +99,7 @@ fn own_fault(st: State, name: &[u8], rec: &[u8], kind: Kind) -> Result<(), Fault
             amounts::line_fault(s, t.debit, t.credit)
         }
         Kind::Balance(_) => Ok(()),
-        Kind::Payment => negative_fault(all),
+        Kind::Payment => negative_fault(st.money.delega.all),
         Kind::Receipt => Ok(()),
         Kind::Addressee => Ok(()),
         Kind::Tail => tail_fault(name, rec),
@@ -162,8 +146,7 @@ fn ended(st: State) -> Result<(), Refusal>
     requires { st.seen < 1000 }
     ensures { result ≡ ended st }
 {
-    let stage = st.stage;
-    if stage.phase == Stage::TAIL {
+    if st.stage.phase == Stage::TAIL {
         return Ok(());
     }
     Err(Refusal {
@@ -179,11 +162,9 @@ pub fn judge_kept(flow: &[u8], misfit: usize, position: usize) -> Result<(), Ref
     requires { Whole flow.now }
     ensures { result ≡ lenient_from (head_name_of flow.now) misfit position start_state (records_of flow.now) }
 {
-    let count = flow.len() / Flow::RECORD;
     let name = &flow[Part::SUPPORT_NAME..Part::SUPPORT_NAME_END];
     let mut st = rules::start();
-    while st.seen < count {
-        let rec = records::record_at(flow, st.seen * Flow::RECORD);
+    for rec in flow.chunks_exact(Flow::RECORD) {
         let kind = records::kind_in(rec);
         if let Err(fault) = record_fault(st, name, rec, kind, misfit, position) {
             return Err(fault.in_record(st.seen + 1));

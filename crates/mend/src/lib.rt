@@ -19,14 +19,14 @@ fn replace(flow: &mut [u8], copy: &mut [u8], list: &mut [u64]) -> Result<usize, 
         × (flow.new ≡ flow_by result (refreshed flow.old) flow.old)
         × (list.new ≡ list_by result (changes_of flow.old) list.old) }
 {
-    rebalance::rebalance(&mut *copy);
+    rebalance::rebalance(copy);
     let mut none = [0u64; 0];
     let count = changes::list_changes(flow, copy, &mut none);
     if list.len() / 2 < count {
         return Err(Refusal::SHORT_LIST);
     }
-    changes::list_changes(flow, copy, &mut *list);
-    text::put_part(&mut *flow, 0, copy);
+    changes::list_changes(flow, copy, list);
+    text::put_part(flow, 0, copy);
     Ok(count)
 }
 
@@ -37,12 +37,11 @@ fn weigh(flow: &mut [u8], list: &mut [u64]) -> Result<usize, Refusal>
         × (flow.new ≡ flow_by result (refreshed flow.old) flow.old)
         × (list.new ≡ list_by result (changes_of flow.old) list.old) }
 {
-    let surveyed = rebalance::survey(flow);
-    if surveyed.fits {
+    if rebalance::survey(flow).fits {
         let n = flow.len();
         let mut copy = [0u8; Flow::MOST_BYTES];
         text::put_part(&mut copy, 0, flow);
-        return replace(&mut *flow, &mut copy[..n], &mut *list);
+        return replace(flow, &mut copy[..n], list);
     }
     Err(Refusal::NO_FIT)
 }
@@ -55,10 +54,7 @@ pub fn first_remaining(flow: &[u8]) -> Result<(), Refusal>
     if Flow::MOST_BYTES < n {
         return Err(Refusal::LONG_FLOW);
     }
-    if n == 0 {
-        return Err(Refusal::NO_WHOLE_RECORDS);
-    }
-    if n % Flow::RECORD != 0 {
+    if n == 0 || n % Flow::RECORD != 0 {
         return Err(Refusal::NO_WHOLE_RECORDS);
     }
     lenient::judge_kept(flow, 0, 0)
@@ -72,5 +68,5 @@ pub fn mend(flow: &mut [u8], list: &mut [u64]) -> Result<usize, Refusal>
         × (list.new ≡ mended_list flow.old list.old) }
 {
     first_remaining(flow)?;
-    weigh(&mut *flow, &mut *list)
+    weigh(flow, list)
 }

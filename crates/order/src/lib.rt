@@ -1,9 +1,8 @@
 // What may stand where, and how many lines a section has: checks 4 and 6, and the stage after a record.
 #![tactic(auto)]
 
-ghost use Rattle.std.specs.Prelude.{◌≡◌, ◌<◌, [], ◌∷◌};
+ghost use Rattle.std.specs.Prelude.{◌≡◌, ◌<◌};
 ghost use Rattle.order.specs.Stages.{stage_at};
-ghost use Rattle.text.specs.Among.{among};
 ghost use Rattle.order.specs.Order.{next_stage, stands, section_stands, type_stands, full, fitting, standing};
 
 use layout::{Kind, Position, RecordType};
@@ -39,109 +38,62 @@ impl Stage {
     pub const TAIL: u8 = 9;
 }
 
-fn one_of(x: u8, a: u8, b: u8, c: u8) -> bool
-    ensures { result ≡ among x (a ∷ b ∷ c ∷ []) }
-{
-    if x == a {
-        return true;
-    }
-    if x == b {
-        return true;
-    }
-    x == c
-}
-
+#[tactic(auto, unfolding(crate::specs::Order::stands))]
 fn line_stands(p: Stage, s: usize) -> bool
     ensures { result ≡ stands p (Kind.Line s) }
 {
-    let phase = p.phase;
-    let section = p.section;
-    if phase == Stage::DOMICILE {
-        return true;
+    match p.phase {
+        Stage::DOMICILE => true,
+        Stage::LINE => s == p.section,
+        Stage::BALANCE => p.section < s && s < 4,
+        _ => false,
     }
-    if phase == Stage::LINE {
-        return s == section;
-    }
-    if phase == Stage::BALANCE {
-        if section < s {
-            return s < 4;
-        }
-    }
-    false
 }
 
 // Whether a record of kind k may stand here, the most lines left aside.
+#[tactic(auto, unfolding(crate::specs::Order::stands, text::specs::Among::among))]
 fn may_stand(p: Stage, k: Kind) -> bool
     ensures { result ≡ stands p k }
 {
-    let phase = p.phase;
-    let section = p.section;
     match k {
-        Kind::Head => phase == Stage::START,
-        Kind::Taxpayer => {
-            if phase == Stage::HEAD {
-                true
-            } else {
-                one_of(phase, Stage::PAYMENT, Stage::RECEIPT, Stage::ADDRESSEE)
-            }
-        }
-        Kind::Domicile => phase == Stage::TAXPAYER,
+        Kind::Head => p.phase == Stage::START,
+        Kind::Taxpayer => matches!(
+            p.phase,
+            Stage::HEAD | Stage::PAYMENT | Stage::RECEIPT | Stage::ADDRESSEE
+        ),
+        Kind::Domicile => p.phase == Stage::TAXPAYER,
         Kind::Line(s) => line_stands(p, s),
-        Kind::Balance(s) => {
-            if phase == Stage::LINE {
-                s == section
-            } else {
-                false
-            }
-        }
-        Kind::Payment => phase == Stage::BALANCE,
-        Kind::Receipt => phase == Stage::PAYMENT,
-        Kind::Addressee => phase == Stage::RECEIPT,
-        Kind::Tail => one_of(phase, Stage::PAYMENT, Stage::RECEIPT, Stage::ADDRESSEE),
+        Kind::Balance(s) => p.phase == Stage::LINE && s == p.section,
+        Kind::Payment => p.phase == Stage::BALANCE,
+        Kind::Receipt => p.phase == Stage::PAYMENT,
+        Kind::Addressee => p.phase == Stage::RECEIPT,
+        Kind::Tail => matches!(p.phase, Stage::PAYMENT | Stage::RECEIPT | Stage::ADDRESSEE),
         Kind::Unknown => false,
     }
 }
 
+#[tactic(auto, unfolding(crate::specs::Order::section_stands))]
 fn section_stands(p: Stage, s: usize) -> bool
     ensures { result ≡ section_stands p s }
 {
-    if may_stand(p, Kind::Line(s)) {
-        return true;
-    }
-    may_stand(p, Kind::Balance(s))
+    may_stand(p, Kind::Line(s)) || may_stand(p, Kind::Balance(s))
 }
 
 fn forty_stands(p: Stage) -> bool
     ensures { result ≡ type_stands p RecordType.T40 }
 {
-    if section_stands(p, 0) {
-        return true;
-    }
-    if section_stands(p, 1) {
-        return true;
-    }
-    if section_stands(p, 2) {
-        return true;
-    }
-    if section_stands(p, 3) {
-        return true;
-    }
-    section_stands(p, 4)
+    (0..5).any(|s| section_stands(p, s))
 }
 
+#[tactic(auto, unfolding(crate::specs::Order::type_stands))]
 fn fifty_stands(p: Stage) -> bool
     ensures { result ≡ type_stands p RecordType.T50 }
 {
-    if may_stand(p, Kind::Payment) {
-        return true;
-    }
-    if may_stand(p, Kind::Receipt) {
-        return true;
-    }
-    may_stand(p, Kind::Addressee)
+    may_stand(p, Kind::Payment) || may_stand(p, Kind::Receipt) || may_stand(p, Kind::Addressee)
 }
 
 // Whether a record that may stand here has type t.
+#[tactic(auto, unfolding(crate::specs::Order::type_stands))]
 fn type_stands(p: Stage, t: RecordType) -> bool
     ensures { result ≡ type_stands p t }
 {
@@ -156,27 +108,26 @@ fn type_stands(p: Stage, t: RecordType) -> bool
     }
 }
 
+#[tactic(auto, unfolding(crate::specs::Order::full))]
 fn is_full(p: Stage, k: Kind) -> bool
     ensures { result ≡ full p k }
 {
     let Kind::Line(s) = k else {
         return false;
     };
-    let section = layout::section_at(s);
-    section.most_lines <= p.lines
+    layout::section_at(s).most_lines <= p.lines
 }
 
 // Whether a record of kind k passes checks 4 and 6.
+#[tactic(auto, unfolding(crate::specs::Order::fitting))]
 pub fn fits(p: Stage, k: Kind) -> bool
     ensures { result ≡ fitting p k }
 {
-    if may_stand(p, k) {
-        return !is_full(p, k);
-    }
-    false
+    may_stand(p, k) && !is_full(p, k)
 }
 
 // Checks 4 and 6.
+#[tactic(auto, unfolding(crate::specs::Order::standing))]
 pub fn standing_of(p: Stage, t: RecordType, k: Kind) -> Result<(), Fault>
     ensures { result ≡ standing p t k }
 {

@@ -11,12 +11,10 @@ use order::Stage;
 pub fn at_most(numbers: &[u64], most: u64) -> bool
     ensures { result ≡ at_most most numbers.now }
 {
-    let mut i: usize = 0;
-    while i < numbers.len() {
-        if most < numbers[i] {
+    for &n in numbers {
+        if most < n {
             return false;
         }
-        i += 1;
     }
     true
 }
@@ -26,28 +24,13 @@ fn is_refusable(seen: u64, number: u64, at: usize, position: usize) -> bool
     requires { seen < 1000 }
     ensures { result ≡ refusable seen number at position }
 {
-    if number == 0 {
-        return false;
+    let next = at as u64 == seen + 1;
+    match number {
+        0 => false,
+        1 | 2 => at == 0 && position == 0,
+        5 => next && position == 0,
+        _ => next && at <= Flow::MOST_RECORDS && (number <= 20 || number == 26),
     }
-    if number < 3 {
-        if at == 0 {
-            return position == 0;
-        }
-        return false;
-    }
-    if at as u64 != seen + 1 {
-        return false;
-    }
-    if number == 5 {
-        return position == 0;
-    }
-    if Flow::MOST_RECORDS < at {
-        return false;
-    }
-    if number <= 20 {
-        return true;
-    }
-    number == 26
 }
 
 // Whether a judgement can stand so after so many records.
@@ -56,8 +39,7 @@ fn course_right(seen: u64, course: Course) -> bool
     ensures { result ≡ course_right seen course }
 {
     match course {
-        Course::Going => true,
-        Course::Accepted => true,
+        Course::Going | Course::Accepted => true,
         Course::Refused(number, at, position) => is_refusable(seen, number, at, position),
         Course::Foreign => false,
     }
@@ -68,22 +50,12 @@ fn counts_right(kept: [u64; 29]) -> bool
     ensures { result ≡ counts_right (state_of kept) }
 {
     let seen = kept[0];
-    if (Flow::MOST_RECORDS as u64) < seen {
-        return false;
-    }
-    if seen < kept[1] {
-        return false;
-    }
-    if seen < kept[2] {
-        return false;
-    }
-    if seen < kept[5] {
-        return false;
-    }
-    if (Stage::TAIL as u64) < kept[3] {
-        return false;
-    }
-    kept[4] <= 4
+    seen <= Flow::MOST_RECORDS as u64
+        && kept[1] <= seen
+        && kept[2] <= seen
+        && kept[5] <= seen
+        && kept[3] <= Stage::TAIL as u64
+        && kept[4] <= 4
 }
 
 // Whether the sums are such as a judgement can have.
@@ -92,13 +64,7 @@ fn sums_right(kept: [u64; 29]) -> bool
     ensures { result ≡ sums_right kept }
 {
     let most = kept[0] * Amount::LARGEST;
-    if most < kept[7] {
-        return false;
-    }
-    if most - kept[7] < kept[6] {
-        return false;
-    }
-    at_most(&kept[8..29], most)
+    kept[7] <= most && kept[6] <= most - kept[7] && at_most(&kept[8..29], most)
 }
 
 // Whether a judgement of some flow can have handed this back.
@@ -106,12 +72,5 @@ pub fn is_possible(x: Progress) -> bool
     ensures { result ≡ possible x }
 {
     let kept = x.kept;
-    if !counts_right(kept) {
-        return false;
-    }
-    let course = x.course;
-    if !course_right(kept[0], course) {
-        return false;
-    }
-    sums_right(kept)
+    counts_right(kept) && course_right(kept[0], x.course) && sums_right(kept)
 }

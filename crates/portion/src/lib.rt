@@ -74,10 +74,7 @@ fn no_summary() -> Summary
 fn lines_in(kept: [u64; 29]) -> u64
     ensures { result ≡ get_or kept 0 0 - get_or kept 1 0 }
 {
-    if kept[0] < kept[1] {
-        return 0;
-    }
-    kept[0] - kept[1]
+    kept[0].saturating_sub(kept[1])
 }
 
 // The summary of a state, by its numbers.
@@ -98,14 +95,8 @@ fn examined_by(course: Course, seen: usize) -> usize
     ensures { result ≡ examined_by course seen }
 {
     match course {
-        Course::Going => seen,
-        Course::Accepted => seen,
-        Course::Refused(number, at, _) => {
-            if number == 5 {
-                return seen;
-            }
-            at
-        }
+        Course::Going | Course::Accepted | Course::Refused(5, _, _) => seen,
+        Course::Refused(_, at, _) => at,
         Course::Foreign => 0,
     }
 }
@@ -115,10 +106,8 @@ fn summary_by(course: Course, kept: [u64; 29]) -> Summary
     ensures { result ≡ summary_by course (state_of kept) }
 {
     match course {
-        Course::Going => no_summary(),
         Course::Accepted => summary_of(kept),
-        Course::Refused(_, _, _) => no_summary(),
-        Course::Foreign => no_summary(),
+        _ => no_summary(),
     }
 }
 
@@ -156,11 +145,7 @@ fn head_name(flow: &[u8]) -> [u8; 20]
     ensures { result ≡ head_name_of flow.now }
 {
     let mut name = [0u8; 20];
-    let mut i: usize = 0;
-    while i < 20 {
-        name[i] = flow[Part::SUPPORT_NAME + i];
-        i += 1;
-    }
+    name.copy_from_slice(&flow[Part::SUPPORT_NAME..Part::SUPPORT_NAME_END]);
     name
 }
 
@@ -169,8 +154,7 @@ fn held_name(flow: &[u8], x: Progress) -> [u8; 20]
     requires { 120 ≤ length flow.now }
     ensures { result ≡ held_name flow.now x }
 {
-    let kept = x.kept;
-    if kept[0] == 0 {
+    if x.kept[0] == 0 {
         return head_name(flow);
     }
     x.name
@@ -250,14 +234,10 @@ fn judge_going(flow: &[u8], portion: usize, x: Progress) -> Portion
     if Flow::MOST_BYTES < n {
         return refuse(1, x);
     }
-    if n == 0 {
+    if n == 0 || n % Flow::RECORD != 0 {
         return refuse(2, x);
     }
-    if n % Flow::RECORD != 0 {
-        return refuse(2, x);
-    }
-    let kept = x.kept;
-    if (kept[0] as usize) < n / Flow::RECORD {
+    if (x.kept[0] as usize) < n / Flow::RECORD {
         return told_by(go_on(flow, portion, x));
     }
     foreign_to(x)
@@ -270,11 +250,9 @@ pub fn judge_portion(flow: &[u8], portion: usize, from: Progress) -> Portion
     if !is_possible(from) {
         return foreign_to(from);
     }
-    let course = from.course;
-    match course {
+    match from.course {
         Course::Going => judge_going(flow, portion, from),
-        Course::Accepted => told_by(from),
-        Course::Refused(_, _, _) => told_by(from),
+        Course::Accepted | Course::Refused(_, _, _) => told_by(from),
         Course::Foreign => foreign_to(from),
     }
 }

@@ -1,4 +1,4 @@
--- Laws of the number of digits: what a turn of the counting loop says, that a number of 64 bits has at most twenty digits, and that
+-- Laws of the number of digits: between which powers of ten a number lies, that one of 64 bits has at most twenty digits, and that
 -- the decimal digits of a number say that number, with no zero in front.
 use Prim.Native.Nat.{ℕ, zero, suc, ◌+◌, ◌*◌, ◌/◌, ◌^◌, ◌≤◌, ◌<◌}
 use mathlib.Core.Path.{◌≡◌, refl, ap}
@@ -7,7 +7,7 @@ use native.Mathlib.Numerals.{add-one}
 use native.Mathlib.Omega.{arith}
 use native.Mathlib.Decide.{dec_le}
 use native.Mathlib.Nat.{lt_of_lt_of_le, pow-suc, pow-le-pow_right}
-use borrow.Author.Tests.{lt-ltb, le-ltb, ltb-true, ltb-false}
+use borrow.Author.Tests.{lt-ltb, ltb-true, ltb-false}
 use lib.Dec.{ltb, lit≤, lit<}
 use lib.ListN.{length}
 use Rattle.text.specs.Answers.{Number}
@@ -15,27 +15,11 @@ use Rattle.text.specs.Numbers.{number_of, digits_of}
 use Rattle.text.proofs.Numerals.{number_digits, length_digits}
 use Rattle.printing.specs.Decimal.{width_within, width_of, decimal}
 
--- The number of digits does not depend on the bound that its count is given.
-any-bound : (j k n : ℕ) → n ≤ j → n ≤ k → width_within j n ≡ width_within k n
-unfolding width_within
-any-bound zero zero n h l = refl
-any-bound zero (suc k) n h l = rw (lt-ltb n 10 (omega arith))
-any-bound (suc j) zero n h l = rw (lt-ltb n 10 (omega arith))
-any-bound (suc j) (suc k) n h l = rw (any-bound j k (n / 10) (omega arith) (omega arith))
-
 -- A number below ten has one digit.
 pub width_one : (n : ℕ) → n ≤ 9 → width_of n ≡ 1
 unfolding width_of width_within
 width_one zero h = refl
 width_one (suc n) h = rw (lt-ltb (suc n) 10 (omega arith))
-
--- Any other number has one digit more than a tenth of it.
-pub width-more : (n : ℕ) → 9 < n → width_of n ≡ width_of (n / 10) + 1
-unfolding width_of width_within
-width-more zero h = absurd (omega arith)
-width-more (suc n) h =
-    rw (le-ltb (suc n) 10 (omega arith))
-    (ap (λ (p : ℕ). p + 1) (any-bound n (suc n / 10) (suc n / 10) (omega arith) (omega arith)))
 
 -- A number below 10 ^ (w + 1) is counted at most w + 1 digits.
 width-below : (k w n : ℕ) → n < 10 ^ suc w → width_within k n ≤ suc w
@@ -92,6 +76,10 @@ width_above w n h = go (dec_le (width_of n) w)
         absurd (omega (arith, width-enough n))
     go (no d) = omega arith
 
+-- A number between two powers of ten has as many digits as the larger has zeros.
+pub width-between : (w n : ℕ) → 10 ^ w ≤ n → n < 10 ^ suc w → width_of n ≡ suc w
+width-between w n h l = omega (arith, width_above w n h, width-upto w n l)
+
 -- The decimal text of a number has as many bytes as the number has digits.
 pub length-decimal : (n : ℕ) → length (decimal n) ≡ width_of n
 unfolding decimal
@@ -100,9 +88,7 @@ length-decimal n = length_digits (width_of n) n
 -- A number between two powers of ten is printed in as many digits as the larger has zeros.
 pub decimal-between : (w n : ℕ) → 10 ^ w ≤ n → n < 10 ^ suc w → decimal n ≡ digits_of (suc w) n
 unfolding decimal
-decimal-between w n h l =
-    let e : width_of n ≡ suc w = omega (arith, width_above w n h, width-upto w n l) in
-    ap (λ (k : ℕ). digits_of k n) e
+decimal-between w n h l = ap (λ (k : ℕ). digits_of k n) (width-between w n h l)
 
 -- The decimal text of a number says the number.
 pub decimal-says : (n : ℕ) → number_of (decimal n) ≡ Number n

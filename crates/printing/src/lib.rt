@@ -10,13 +10,10 @@ ghost use Rattle.printing.specs.Appended.{Appended};
 fn width_of(n: u64) -> usize
     ensures { result ≡ width_of n }
 {
-    let mut left = n;
-    let mut width: usize = 1;
-    while 9 < left {
-        left = left / 10;
-        width += 1;
+    match n.checked_ilog10() {
+        Some(k) => k as usize + 1,
+        None => 1,
     }
-    width
 }
 
 // A word at an index; the answer is the index after it.
@@ -24,9 +21,8 @@ pub fn put_word(room: &mut [u8], at: usize, word: &[u8]) -> usize
     requires { at + length word.now ≤ length room.old }
     ensures { Appended at word.now (length word.now) room.old room.new result }
 {
-    let end = at + word.len();
-    text::put_part(&mut *room, at, word);
-    end
+    text::put_part(room, at, word);
+    at + word.len()
 }
 
 // A number in decimal digits at an index.
@@ -35,9 +31,8 @@ pub fn put_decimal(room: &mut [u8], at: usize, n: u64) -> usize
     ensures { Appended at (decimal n) 20 room.old room.new result }
 {
     let width = width_of(n);
-    let end = at + width;
-    text::put_number(&mut *room, at, width, n);
-    end
+    text::put_number(room, at, width, n);
+    at + width
 }
 
 // One byte at an index.

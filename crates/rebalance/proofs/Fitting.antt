@@ -1,4 +1,5 @@
 -- What fits its field: what the tests on totals, balances and the tail's values say of the stored fields, and the other way round.
+use mathlib.Core.Logic.{◌⊎◌, inl, inr}
 use Prim.Native.Nat.{ℕ, ◌+◌, ◌-◌, ◌^◌, ◌<◌, ◌≤◌}
 use mathlib.Core.Path.{◌≡◌, refl, sym, ap, ◌∙◌}
 use mathlib.Core.Bool.{Bool, true, false, cond}
@@ -90,6 +91,11 @@ module _ (s : ℕ) (t : Sums) where
       -- Both totals fit, so that the balance decides.
       pub fits-balance : t.credit ≤ 999_999_999_999_999 → fits_all (stored_section s t) ≡ leb (apart t.debit t.credit) 999_999_999_999_999
       fits-balance i = fits-past ∙ (fits_on 11 (amount_at (section_at s).total_credit) 999_999_999_999_999 t.credit (stored_balance s t) (fifteen _) i ∙ fits-ends)
+
+  -- A total that is too large does not fit, be it of the debits or of the credits.
+  pub fits-neither : (section_at s).totals ≡ true → (999_999_999_999_999 < t.debit) ⊎ ((t.debit ≤ 999_999_999_999_999) × (999_999_999_999_999 < t.credit)) → fits_all (stored_section s t) ≡ false
+  fits-neither e (inl h) = fits-debit e h
+  fits-neither e (inr h) = fits-credit e h.0 h.1
 
 -- The tail's values after the records that led to a state.
 module _ (st : State) where

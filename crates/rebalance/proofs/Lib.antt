@@ -10,6 +10,7 @@ pub mod Flat
 pub mod Judged
 pub mod Turns
 pub mod Fitting
+mod NoneStored
 pub mod Stores
 pub mod Surveys
 pub mod Passes

@@ -35,13 +35,8 @@ pub struct Surveyed {
 fn is_negative(st: State, k: Kind) -> bool
     ensures { result ≡ negative_at st k }
 {
-    let money = st.money;
-    let delega = money.delega;
-    let all = delega.all;
-    if let Kind::Payment = k {
-        return all.debit < all.credit;
-    }
-    false
+    let all = st.money.delega.all;
+    matches!(k, Kind::Payment) && all.debit < all.credit
 }
 
 // Whether the totals, where the section has them, and the balance have at most fifteen digits.
@@ -50,14 +45,8 @@ fn balance_fits(s: usize, t: Sums) -> bool
 {
     let section = layout::section_at(s);
     let balance = amounts::apart_of(t.debit, t.credit);
-    if section.totals {
-        if Amount::LARGEST < t.debit {
-            return false;
-        }
-        if Amount::LARGEST < t.credit {
-            return false;
-        }
-        return balance <= Amount::LARGEST;
+    if section.totals && (Amount::LARGEST < t.debit || Amount::LARGEST < t.credit) {
+        return false;
     }
     balance <= Amount::LARGEST
 }
@@ -67,15 +56,8 @@ fn tail_fits(st: State) -> bool
     requires { st.seen < 1000 }
     ensures { result ≡ fits_all (stored_of st Kind.Tail) }
 {
-    let money = st.money;
-    let records = st.seen + 1;
-    if MOST_COUNT < st.deleghe {
-        return false;
-    }
-    if MOST_COUNT < records as u64 {
-        return false;
-    }
-    money.total <= Amount::LARGEST
+    let records = (st.seen + 1) as u64;
+    st.deleghe <= MOST_COUNT && records <= MOST_COUNT && st.money.total <= Amount::LARGEST
 }
 
 // Whether what is stored in a record of kind k, after the records that led to a state, has room in its fields.
@@ -83,20 +65,11 @@ fn stored_fit(st: State, k: Kind) -> bool
     requires { st.seen < 1000 }
     ensures { result ≡ fits_all (stored_of st k) }
 {
-    let money = st.money;
-    let delega = money.delega;
-    let all = delega.all;
     match k {
-        Kind::Head => true,
-        Kind::Taxpayer => true,
-        Kind::Domicile => true,
-        Kind::Line(_) => true,
         Kind::Balance(s) => balance_fits(s, rules::section_sums(st, s)),
-        Kind::Payment => amounts::final_of(all) <= Amount::LARGEST,
-        Kind::Receipt => true,
-        Kind::Addressee => true,
+        Kind::Payment => amounts::final_of(st.money.delega.all) <= Amount::LARGEST,
         Kind::Tail => tail_fits(st),
-        Kind::Unknown => true,
+        _ => true,
     }
 }
 
@@ -105,15 +78,13 @@ pub fn survey(flow: &[u8]) -> Surveyed
     requires { Whole flow.now }
     ensures { (result.negative ≡ any_negative start_state (records_of flow.now)) × (result.fits ≡ all_fit start_state (records_of flow.now)) }
 {
-    let count = flow.len() / Flow::RECORD;
     let mut st = rules::start();
     let mut negative = false;
     let mut fits = true;
-    while st.seen < count {
-        let rec = records::record_at(flow, st.seen * Flow::RECORD);
+    for rec in flow.chunks_exact(Flow::RECORD) {
         let kind = records::kind_in(rec);
-        negative = negative | is_negative(st, kind);
-        fits = fits & stored_fit(st, kind);
+        negative |= is_negative(st, kind);
+        fits &= stored_fit(st, kind);
         st = rules::next_state(st, kind, records::line_sums(rec, kind));
     }
     Surveyed { negative, fits }
@@ -153,8 +124,6 @@ fn fill_balance(rec: &mut [u8], s: usize, t: Sums)
     if section.totals {
         store(&mut *rec, layout::amount_at(section.total_debit), t.debit);
         store(&mut *rec, layout::amount_at(section.total_credit), t.credit);
-        fill_ends(&mut *rec, s, t);
-        return;
     }
     fill_ends(&mut *rec, s, t);
 }
@@ -164,11 +133,10 @@ fn fill_tail(rec: &mut [u8], st: State)
     requires { (length rec.old ≡ 120) × (st.seen < 1000) × (fits_all (stored_of st Kind.Tail) ≡ true) }
     ensures { rec.new ≡ put_all (stored_of st Kind.Tail) rec.old }
 {
-    let money = st.money;
     let records = st.seen + 1;
     store(&mut *rec, layout::TAIL_DELEGHE, st.deleghe);
     store(&mut *rec, layout::TAIL_RECORDS, records as u64);
-    store(&mut *rec, layout::TAIL_SUM, money.total);
+    store(&mut *rec, layout::TAIL_SUM, st.money.total);
 }
 
 // The stored fields of a record of kind k, after the records that led to a state.
@@ -176,20 +144,12 @@ pub fn fill(rec: &mut [u8], st: State, k: Kind)
     requires { (length rec.old ≡ 120) × (st.seen < 1000) × (fits_all (stored_of st k) ≡ true) }
     ensures { rec.new ≡ put_all (stored_of st k) rec.old }
 {
-    let money = st.money;
-    let delega = money.delega;
-    let all = delega.all;
+    let all = st.money.delega.all;
     match k {
-        Kind::Head => {}
-        Kind::Taxpayer => {}
-        Kind::Domicile => {}
-        Kind::Line(_) => {}
         Kind::Balance(s) => fill_balance(&mut *rec, s, rules::section_sums(st, s)),
         Kind::Payment => store(&mut *rec, layout::FINAL_BALANCE, amounts::final_of(all)),
-        Kind::Receipt => {}
-        Kind::Addressee => {}
         Kind::Tail => fill_tail(&mut *rec, st),
-        Kind::Unknown => {}
+        _ => {}
     }
 }
 
@@ -209,10 +169,10 @@ pub fn rebalance(flow: &mut [u8])
     requires { Whole flow.old × (all_fit start_state (records_of flow.old) ≡ true) }
     ensures { flow.new ≡ flat (rebalanced start_state (records_of flow.old)) }
 {
-    let count = flow.len() / Flow::RECORD;
     let mut st = rules::start();
-    while st.seen < count {
-        let at = st.seen * Flow::RECORD;
+    // Kept: by numbers, and not by `chunks_exact_mut`: what stayed open is that the flow is then its chunks as they were left, of which the contract says nothing.
+    for k in 0..flow.len() / Flow::RECORD {
+        let at = k * Flow::RECORD;
         st = settle(&mut flow[at..at + Flow::RECORD], st);
     }
 }

@@ -47,12 +47,12 @@ pub fn type_in(rec: &[u8]) -> RecordType
 }
 
 // The kind of a record.
+#[tactic(auto, unfolding(layout::specs::Forms::form_of))]
 pub fn kind_in(rec: &[u8]) -> Kind
     requires { length rec.now ≡ 120 }
     ensures { result ≡ kind_in rec.now }
 {
-    let form = layout::form_in(rec);
-    form.kind
+    layout::form_in(rec).kind
 }
 
 // What the digits of a field say.
@@ -60,9 +60,7 @@ pub fn read_field(rec: &[u8], field: Field) -> Result<u64, DigitsError>
     requires { (length rec.now ≡ 120) × Within field }
     ensures { result ≡ number_of (bytes_of rec.now field) }
 {
-    let start = field.start;
-    let end = field.end;
-    text::number(&rec[start..end])
+    text::number(&rec[field.start..field.end])
 }
 
 // The offset of the first character of a field that is no digit, by what the field's digits say; 0 where they tell none.
@@ -94,16 +92,13 @@ pub fn clean_records(flow: &[u8], seen: usize) -> usize
     let mut k = seen;
     let mut block: usize = 128;
     while k < count {
-        if count - k < block {
-            block = count - k;
-        }
+        block = block.min(count - k);
         if text::long_allowed(&flow[k * Flow::RECORD..(k + block) * Flow::RECORD]) {
             k += block;
+        } else if block == 1 {
+            return k;
         } else {
-            if block == 1 {
-                return k;
-            }
-            block = block / 2;
+            block /= 2;
         }
     }
     count

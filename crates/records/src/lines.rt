@@ -23,9 +23,10 @@ fn line_amounts(rec: &[u8], s: usize) -> Sums
     ensures { result ≡ line_sums (Kind.Line s) rec.now }
 {
     let section = layout::section_at(s);
-    let debit = amount_in(rec, section.debit);
-    let credit = amount_in(rec, section.credit);
-    Sums { debit, credit }
+    Sums {
+        debit: amount_in(rec, section.debit),
+        credit: amount_in(rec, section.credit),
+    }
 }
 
 // The amounts of a line: a record that is none has none.
@@ -33,11 +34,8 @@ pub fn line_sums(rec: &[u8], k: Kind) -> Sums
     requires { length rec.now ≡ 120 }
     ensures { result ≡ line_sums k rec.now }
 {
-    let Kind::Line(s) = k else {
-        return Sums {
-            debit: 0,
-            credit: 0,
-        };
-    };
-    line_amounts(rec, s)
+    match k {
+        Kind::Line(s) => line_amounts(rec, s),
+        _ => Sums::ZERO,
+    }
 }

@@ -1,4 +1,3 @@
-pub mod Widths
 pub mod Appending
 pub mod SectionLines
 pub mod Samples

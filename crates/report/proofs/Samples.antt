@@ -6,7 +6,8 @@ use Rattle.text.specs.Numbers.{digits_of}
 use Rattle.layout.specs.Sections.{section_at}
 use Rattle.judge.specs.Flow.{refused_with}
 use Rattle.delega.proofs.Samples.{one_delega, printed_delega}
-use Rattle.report.specs.Printed.{width_within, width_of, decimal, field_text, pair_text, section_text, sections_from, sections_text, accepted_text, refused_text, answered_text, judgement_text, delega_text}
+use Rattle.printing.specs.Decimal.{width_within, width_of, decimal}
+use Rattle.report.specs.Printed.{field_text, pair_text, section_text, sections_from, sections_text, accepted_text, refused_text, answered_text, judgement_text, delega_text}
 
 -- "05 10000 2500", and zeros in the four other lines
 abbrev regioni_text : List ℕ

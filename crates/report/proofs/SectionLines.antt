@@ -11,7 +11,7 @@ use Rattle.amounts.specs.declared.Sums.{Sums}
 use Rattle.rules.specs.State.{no_sums}
 use Rattle.report.specs.Printed.{section_text, sections_from, sections_text}
 use Rattle.report.specs.Appended.{Appended}
-use Rattle.report.proofs.Appending.{append-none, append-on}
+use Rattle.printing.proofs.Appending.{append-none, append-on}
 
 -- The subtype of a section's lines has two digits.
 pub subtype-short : (s : ℕ) → (section_at s).line_subtype < 100

@@ -1,11 +1,7 @@
 -- Serves inner functions. One step of printing, which puts a text behind what is printed already.
-use Rattle.std.specs.Prelude.{ℕ, ◌+◌, ◌≤◌, ◌≡◌, List, length}
-use Rattle.text.specs.Placing.{put_at}
+use Rattle.std.specs.Prelude.{ℕ, List}
+use Rattle.printing.specs.Appended as Printing
 
 -- "One space stands between fields": one step of printing puts t, of at most m bytes, at s of the room r, up to e, and leaves r'
-pub record Appended (s : ℕ) (t : List ℕ) (m : ℕ) (r r' : List ℕ) (e : ℕ) : Type 0 where
-  pub bytes : r' ≡ put_at s t r
-  pub next : e ≡ s + length t
-  pub short : length t ≤ m
-  pub fits : e ≤ length r
-  pub same : length r' ≡ length r
+abbrev pub Appended : ℕ → List ℕ → ℕ → List ℕ → List ℕ → ℕ → Type 0
+Appended s t m r r' e = Printing.Appended s t m r r' e

@@ -1,7 +1,8 @@
 -- Believed. What the programs print: document 01's lines as bytes, and what printing leaves in a room that is lent for them.
-use Rattle.std.specs.Prelude.{ℕ, zero, suc, ◌+◌, ◌/◌, ◌≤◌, ◌≡◌, List, [], ◌∷◌, ◌++◌, cond, ltb, leb, length, take}
+use Rattle.std.specs.Prelude.{ℕ, ◌+◌, ◌≤◌, ◌≡◌, List, [], ◌∷◌, ◌++◌, cond, leb, length, take}
 use Rattle.text.specs.Numbers.{digits_of}
 use Rattle.text.specs.Placing.{put_at}
+use Rattle.printing.specs.Decimal as Printing
 use Rattle.layout.specs.Sections.{section_at}
 use Rattle.amounts.specs.declared.Sums.{Sums}
 use Rattle.judge.specs.declared.Summary.{Summary}
@@ -17,18 +18,13 @@ space = 32
 abbrev pub line_end : ℕ
 line_end = 10
 
--- "decimal numbers": how many digits a number of at most k has, one below ten and else one more than a tenth of it
-unfoldable pub width_within : ℕ → ℕ → ℕ
-width_within zero n = 1
-width_within (suc k) n = cond (ltb n 10) 1 (width_within k (n / 10) + 1)
-
 -- "without leading zeros": the number of digits that a number has
-unfoldable pub width_of : ℕ → ℕ
-width_of n = width_within n n
+abbrev pub width_of : ℕ → ℕ
+width_of n = Printing.width_of n
 
 -- "prints decimal numbers without leading zeros"
-unfoldable pub decimal : ℕ → List ℕ
-decimal n = digits_of (width_of n) n
+abbrev pub decimal : ℕ → List ℕ
+decimal n = Printing.decimal n
 
 -- "One space stands between fields": a number and the byte after it
 unfoldable pub field_text : ℕ → ℕ → List ℕ

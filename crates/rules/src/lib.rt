@@ -25,14 +25,8 @@ impl DelegaSums {
         ensures { result ≡ zero_delega }
     {
         DelegaSums {
-            sections: [Sums {
-                debit: 0,
-                credit: 0,
-            }; 5],
-            all: Sums {
-                debit: 0,
-                credit: 0,
-            },
+            sections: [Sums::ZERO; 5],
+            all: Sums::ZERO,
         }
     }
 }
@@ -56,10 +50,10 @@ pub struct State {
 }
 
 // Before the first record.
+#[tactic(auto, unfolding(crate::specs::State::start_state))]
 pub fn start() -> State
     ensures { result ≡ start_state }
 {
-    let delega = DelegaSums::zero();
     State {
         stage: Stage {
             phase: Stage::START,
@@ -68,11 +62,8 @@ pub fn start() -> State
         },
         deleghe: 0,
         money: Money {
-            delega,
-            flow: [Sums {
-                debit: 0,
-                credit: 0,
-            }; 5],
+            delega: DelegaSums::zero(),
+            flow: [Sums::ZERO; 5],
             total: 0,
         },
         seen: 0,

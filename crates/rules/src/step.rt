@@ -13,10 +13,10 @@ pub fn next_deleghe(d: u64, k: Kind) -> u64
     requires { d < 1000 }
     ensures { result ≡ next_deleghe d k }
 {
-    if let Kind::Taxpayer = k {
-        return d + 1;
+    match k {
+        Kind::Taxpayer => d + 1,
+        _ => d,
     }
-    d
 }
 
 // How many records that are no lines there have been after a record of kind k. They are counted, and not
@@ -25,10 +25,10 @@ fn next_others(n: usize, k: Kind) -> usize
     requires { n < 1000 }
     ensures { result ≡ next_others n k }
 {
-    if let Kind::Line(_) = k {
-        return n;
+    match k {
+        Kind::Line(_) => n,
+        _ => n + 1,
     }
-    n + 1
 }
 
 // A line's amounts added to a debit and a credit sum.
@@ -44,30 +44,19 @@ fn plus(t: Sums, x: Sums) -> Sums
 
 // A line's amounts added to the sums of its section: one element changed. The index is constant in each way out: an array that is changed at a
 // variable index is kept in memory and copied wherever a state goes.
+#[tactic(auto, unfolding(crate::specs::Step::added_at))]
 fn plus_at(sums: [Sums; 5], s: usize, x: Sums) -> [Sums; 5]
     requires { SumsBelow 1_000_000_000_000_000_000 sums × Small x }
     ensures { result ≡ added_at sums s x }
 {
     let mut out = sums;
-    if s == 0 {
-        out[0] = plus(sums[0], x);
-        return out;
-    }
-    if s == 1 {
-        out[1] = plus(sums[1], x);
-        return out;
-    }
-    if s == 2 {
-        out[2] = plus(sums[2], x);
-        return out;
-    }
-    if s == 3 {
-        out[3] = plus(sums[3], x);
-        return out;
-    }
-    if s == 4 {
-        out[4] = plus(sums[4], x);
-        return out;
+    match s {
+        0 => out[0] = plus(sums[0], x),
+        1 => out[1] = plus(sums[1], x),
+        2 => out[2] = plus(sums[2], x),
+        3 => out[3] = plus(sums[3], x),
+        4 => out[4] = plus(sums[4], x),
+        _ => {}
     }
     out
 }
@@ -76,43 +65,34 @@ fn line_money(m: Money, s: usize, x: Sums) -> Money
     requires { MoneyBelow 1_000_000_000_000_000_000 m × Small x }
     ensures { result ≡ next_money m (Kind.Line s) x }
 {
-    let delega = m.delega;
-    let before = delega.sections;
-    let sections = plus_at(before, s, x);
-    let all = plus(delega.all, x);
-    let so_far = m.flow;
-    let flow = plus_at(so_far, s, x);
     Money {
-        delega: DelegaSums { sections, all },
-        flow,
-        total: m.total,
+        delega: DelegaSums {
+            sections: plus_at(m.delega.sections, s, x),
+            all: plus(m.delega.all, x),
+        },
+        flow: plus_at(m.flow, s, x),
+        ..m
     }
 }
 
+#[tactic(auto, unfolding(amounts::specs::Amounts::final_of))]
 fn payment_money(m: Money) -> Money
     requires { MoneyBelow 1_000_000_000_000_000_000 m }
     ensures { result ≡ next_money m Kind.Payment no_sums }
 {
-    let open = m.delega;
-    let flow = m.flow;
-    let total = m.total + final_of(open.all);
-    let delega = DelegaSums::zero();
     Money {
-        delega,
-        flow,
-        total,
+        delega: DelegaSums::zero(),
+        total: m.total + final_of(m.delega.all),
+        ..m
     }
 }
 
 fn opened_money(m: Money) -> Money
     ensures { result ≡ next_money m Kind.Taxpayer no_sums }
 {
-    let flow = m.flow;
-    let delega = DelegaSums::zero();
     Money {
-        delega,
-        flow,
-        total: m.total,
+        delega: DelegaSums::zero(),
+        ..m
     }
 }
 
@@ -121,16 +101,10 @@ fn next_money(m: Money, k: Kind, x: Sums) -> Money
     ensures { result ≡ next_money m k x }
 {
     match k {
-        Kind::Head => m,
         Kind::Taxpayer => opened_money(m),
-        Kind::Domicile => m,
         Kind::Line(s) => line_money(m, s, x),
-        Kind::Balance(_) => m,
         Kind::Payment => payment_money(m),
-        Kind::Receipt => m,
-        Kind::Addressee => m,
-        Kind::Tail => m,
-        Kind::Unknown => m,
+        _ => m,
     }
 }
 
@@ -140,17 +114,11 @@ pub fn next_state(st: State, k: Kind, x: Sums) -> State
     requires lines_bound { (st.stage.lines < 1000) × (st.deleghe < 1000) × (st.others < 1000) × (st.seen < 1000) }
     ensures { result ≡ next_of st k x }
 {
-    let stage = st.stage;
-    let money = st.money;
-    let p = order::next_stage(stage, k);
-    let d = next_deleghe(st.deleghe, k);
-    let others = next_others(st.others, k);
-    let m = next_money(money, k, x);
     State {
-        stage: p,
-        deleghe: d,
-        money: m,
+        stage: order::next_stage(st.stage, k),
+        deleghe: next_deleghe(st.deleghe, k),
+        money: next_money(st.money, k, x),
         seen: st.seen + 1,
-        others,
+        others: next_others(st.others, k),
     }
 }

@@ -16,21 +16,15 @@ use refusal::Fault;
 use taxcode::code_right;
 
 // Check 8, of a record that carries n after d records 10.
+#[tactic(auto, unfolding(crate::specs::Checks::number_fault))]
 pub fn number_fault(d: u64, k: Kind, n: u64) -> Result<(), Fault>
     requires { d < 1000 }
     ensures { result ≡ number_fault d k n }
 {
     match k {
-        Kind::Head => Ok(()),
+        Kind::Head | Kind::Tail | Kind::Unknown => Ok(()),
         Kind::Taxpayer => carries(d + 1, n),
-        Kind::Domicile => carries(d, n),
-        Kind::Line(_) => carries(d, n),
-        Kind::Balance(_) => carries(d, n),
-        Kind::Payment => carries(d, n),
-        Kind::Receipt => carries(d, n),
-        Kind::Addressee => carries(d, n),
-        Kind::Tail => Ok(()),
-        Kind::Unknown => Ok(()),
+        _ => carries(d, n),
     }
 }
 
@@ -110,44 +104,44 @@ fn payment_fault(t: Sums, v: u64) -> Result<(), Fault>
 }
 
 // Checks 16 and 17, of the head.
+#[tactic(auto, unfolding(crate::specs::Values::head_on, crate::specs::Checks::head_name, crate::specs::Checks::date_fault))]
 fn head_fault(name: &[u8], date: u64) -> Result<(), Fault>
     ensures { result ≡ head_on name.now date }
 {
-    if name_right(name) {
-        if date_right(date) {
-            return Ok(());
-        }
+    if !name_right(name) {
+        return Err(Fault {
+            number: 16,
+            position: Position::SUPPORT_NAME,
+        });
+    }
+    if !date_right(date) {
         return Err(Fault {
             number: 17,
             position: Position::CREATION_DATE,
         });
     }
-    Err(Fault {
-        number: 16,
-        position: Position::SUPPORT_NAME,
-    })
+    Ok(())
 }
 
 // Checks 18 to 20, of the tail.
+#[tactic(auto, unfolding(crate::specs::Values::tail_on))]
 fn tail_fault(st: State, vs: [u64; 4]) -> Result<(), Fault>
     requires { st.seen < 1000 }
     ensures { result ≡ tail_on st vs }
 {
-    let money = st.money;
-    let records = st.seen + 1;
     if vs[0] != st.deleghe {
         return Err(Fault {
             number: 18,
             position: Position::TAIL_DELEGHE,
         });
     }
-    if vs[2] != records as u64 {
+    if vs[2] != (st.seen + 1) as u64 {
         return Err(Fault {
             number: 19,
             position: Position::TAIL_RECORDS,
         });
     }
-    if vs[1] != money.total {
+    if vs[1] != st.money.total {
         return Err(Fault {
             number: 20,
             position: Position::TAIL_SUM,
@@ -160,26 +154,13 @@ fn tail_fault(st: State, vs: [u64; 4]) -> Result<(), Fault>
 pub fn section_sums(st: State, s: usize) -> Sums
     ensures { result ≡ section_sums st s }
 {
-    let money = st.money;
-    let delega = money.delega;
-    if s == 0 {
-        return delega.sections[0];
-    }
-    if s == 1 {
-        return delega.sections[1];
-    }
-    if s == 2 {
-        return delega.sections[2];
-    }
-    if s == 3 {
-        return delega.sections[3];
-    }
-    if s == 4 {
-        return delega.sections[4];
-    }
-    Sums {
-        debit: 0,
-        credit: 0,
+    match s {
+        0 => st.money.delega.sections[0],
+        1 => st.money.delega.sections[1],
+        2 => st.money.delega.sections[2],
+        3 => st.money.delega.sections[3],
+        4 => st.money.delega.sections[4],
+        _ => Sums::ZERO,
     }
 }
 
@@ -216,9 +197,8 @@ fn balance_record(st: State, s: usize, rec: &[u8], vs: [u64; 4]) -> Result<(), F
     requires { length rec.now ≡ 120 }
     ensures { result ≡ balance_on s (section_sums st s) vs (get_or rec.now (section_at s).sign 0) }
 {
-    let section = layout::section_at(s);
-    let at = section.sign;
-    balance_fault(s, section_sums(st, s), vs, rec[at])
+    let sign = rec[layout::section_at(s).sign];
+    balance_fault(s, section_sums(st, s), vs, sign)
 }
 
 // Whether the name in a record is the one given: three words, the last of which begins within the second.
@@ -226,13 +206,9 @@ fn same_name(rec: &[u8], name: &[u8]) -> bool
     requires { (length rec.now ≡ 120) × (length name.now ≡ 20) }
     ensures { result ≡ same_bytes (bytes_of rec.now support_name) name.now }
 {
-    if words::word_at(rec, Part::SUPPORT_NAME) != words::word_at(name, 0) {
-        return false;
-    }
-    if words::word_at(rec, Part::SUPPORT_NAME + 8) != words::word_at(name, 8) {
-        return false;
-    }
-    words::word_at(rec, Part::SUPPORT_NAME + 12) == words::word_at(name, 12)
+    words::word_at(rec, Part::SUPPORT_NAME) == words::word_at(name, 0)
+        && words::word_at(rec, Part::SUPPORT_NAME + 8) == words::word_at(name, 8)
+        && words::word_at(rec, Part::SUPPORT_NAME + 12) == words::word_at(name, 12)
 }
 
 fn tail_record(st: State, name: &[u8], rec: &[u8], vs: [u64; 4]) -> Result<(), Fault>
@@ -249,24 +225,19 @@ fn tail_record(st: State, name: &[u8], rec: &[u8], vs: [u64; 4]) -> Result<(), F
 }
 
 // Checks 9 to 20 and 26, of a record of kind k whose numeric fields hold the values vs.
+#[tactic(auto, unfolding(crate::specs::Values::amounts_on))]
 fn amounts_fault(st: State, name: &[u8], k: Kind, rec: &[u8], vs: [u64; 4]) -> Result<(), Fault>
     requires { (length rec.now ≡ 120) × (length name.now ≡ 20) × (st.seen < 1000) }
     ensures { result ≡ amounts_on name.now st k vs rec.now }
 {
-    let money = st.money;
-    let delega = money.delega;
-    let all = delega.all;
     match k {
         Kind::Head => head_record(rec, vs[0]),
         Kind::Taxpayer => code_fault(has_code(rec)),
-        Kind::Domicile => Ok(()),
         Kind::Line(s) => line_fault(s, vs[1], vs[2]),
         Kind::Balance(s) => balance_record(st, s, rec, vs),
-        Kind::Payment => payment_fault(all, vs[1]),
-        Kind::Receipt => Ok(()),
-        Kind::Addressee => Ok(()),
+        Kind::Payment => payment_fault(st.money.delega.all, vs[1]),
         Kind::Tail => tail_record(st, name, rec, vs),
-        Kind::Unknown => Ok(()),
+        Kind::Domicile | Kind::Receipt | Kind::Addressee | Kind::Unknown => Ok(()),
     }
 }
 

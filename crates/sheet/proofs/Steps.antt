@@ -1,5 +1,5 @@
 -- What each part of a sheet comes to: a record, a count with what it counts, the lines of a section with the balance record behind them.
-use Prim.Native.Nat.{ℕ, zero, suc, ◌+◌, ◌-◌, ◌^◌, ◌≤◌, ◌<◌}
+use Prim.Native.Nat.{ℕ, suc, ◌+◌, ◌-◌, ◌^◌, ◌≤◌, ◌<◌}
 use mathlib.Core.Path.{◌≡◌, refl, sym, ap, subst, ◌∙◌}
 use mathlib.Core.Bool.{Bool, true, false, cond, false≢true}
 use mathlib.Core.List.{List, [], ◌∷◌}
@@ -60,14 +60,13 @@ module _ (sheet name : List ℕ) (a : Spot) (f : List ℕ) where
   counts-none w R q e t = rw (counted-by w (drop a.at sheet) R, ← e, no-count q t (λ n. R n (drop w (drop a.at sheet)))) refl
 
 -- The lines that are left are the next one and those behind it.
-pub lines-on : (x d n : ℕ) (s : List ℕ) → 0 < n → lines_from x d n s ≡ and_then (one_record (Line x) d s) (lines_from x d (n - 1))
+pub lines-on : (x d n k : ℕ) (s : List ℕ) → k < n → lines_from x d (n - k) s ≡ and_then (one_record (Line x) d s) (lines_from x d (n - (k + 1)))
 unfolding lines_from
-lines-on x d zero s h = absurd (omega arith)
-lines-on x d (suc n) s h = let e : n ≡ suc n - 1 = omega arith in ap (λ (m : ℕ). and_then (one_record (Line x) d s) (lines_from x d m)) e
+lines-on x d n k s h = let e : n - k ≡ suc (n - (k + 1)) = omega arith in rw e
 
-pub lines_end : (x d n : ℕ) (s : List ℕ) → n ≡ 0 → lines_from x d n s ≡ Read [] s
+pub lines_end : (x d n k : ℕ) (s : List ℕ) → n ≤ k → lines_from x d (n - k) s ≡ Read [] s
 unfolding lines_from
-lines_end x d n s e = rw e
+lines_end x d n k s h = let e : n - k ≡ 0 = omega arith in rw e
 
 -- So with the sections,
 pub sections-on : (d n x : ℕ) (s : List ℕ) → x < n → sections_from d (n - x) x s ≡ and_then (counted 2 s (one_section x d)) (sections_from d (n - (x + 1)) (x + 1))

@@ -11,7 +11,7 @@ fn put_name(rec: &mut [u8], slot: Kind, name: &[u8])
     ensures { rec.new ≡ with_name slot name.now rec.old }
 {
     if let Kind::Tail = slot {
-        text::put_part(&mut *rec, Part::SUPPORT_NAME, name);
+        text::put_part(rec, Part::SUPPORT_NAME, name);
     }
 }
 

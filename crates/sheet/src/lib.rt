@@ -33,11 +33,9 @@ fn beyond(spot: Spot, n: usize) -> Spot
     requires { spot.at + n ≤ 18_446_744_073_709_551_615 }
     ensures { result ≡ beyond_by spot n }
 {
-    let misfit = spot.misfit;
     Spot {
         at: spot.at + n,
-        count: spot.count,
-        misfit,
+        ..spot
     }
 }
 
@@ -65,7 +63,7 @@ fn put_record(flow: &mut [u8], count: usize, rec: &[u8])
         × (count < 546 → take (count * 120 + 120) flow.new ≡ take (count * 120) flow.old ++ rec.now) }
 {
     if count < Flow::MOST_RECORDS {
-        text::put_part(&mut *flow, count * Flow::RECORD, rec);
+        text::put_part(flow, count * Flow::RECORD, rec);
     }
 }
 
@@ -76,14 +74,13 @@ fn enter(flow: &mut [u8], name: &[u8], spot: Spot, slot: Kind, d: u64, keyed: &[
     ensures { Enters name.now spot flow.old (entry slot d keyed.now) result flow.new }
 {
     let rec = filled::filled_record(keyed, name, slot, d);
-    put_record(&mut *flow, spot.count, &rec);
-    let so_far = spot.misfit;
+    put_record(flow, spot.count, &rec);
     let count = spot.count + 1;
-    let misfit = or_misfit(so_far, count, slot, &rec);
+    let misfit = or_misfit(spot.misfit, count, slot, &rec);
     Spot {
-        at: spot.at,
         count,
         misfit,
+        ..spot
     }
 }
 
@@ -105,7 +102,7 @@ fn record(
     let behind = beyond(spot, Flow::RECORD);
     let at = spot.at;
     let keyed = &sheet[at..at + Flow::RECORD];
-    Some(enter(&mut *flow, name, behind, slot, d, keyed))
+    Some(enter(flow, name, behind, slot, d, keyed))
 }
 
 // n lines of section x.
@@ -122,11 +119,8 @@ fn lines(
     ensures { Follows sheet.now name.now spot flow.old (lines_from x d n (drop spot.at sheet.now)) result flow.new }
 {
     let mut here = spot;
-    let mut left = n;
-    while 0 < left {
-        let behind = record(sheet, &mut *flow, name, here, Kind::Line(x), d)?;
-        here = behind;
-        left -= 1;
+    for _ in 0..n {
+        here = record(sheet, flow, name, here, Kind::Line(x), d)?;
     }
     Some(here)
 }
@@ -151,12 +145,12 @@ fn section(sheet: &[u8], flow: &mut [u8], name: &[u8], spot: Spot, x: usize, d: 
         return None;
     };
     let behind = beyond(spot, 2);
-    let end = lines(sheet, &mut *flow, name, behind, x, d, n)?;
+    let end = lines(sheet, flow, name, behind, x, d, n)?;
     if n == 0 {
         return Some(end);
     }
     let made = slots::made_balance(x);
-    Some(enter(&mut *flow, name, end, Kind::Balance(x), d, &made))
+    Some(enter(flow, name, end, Kind::Balance(x), d, &made))
 }
 
 // The five sections.
@@ -165,11 +159,8 @@ fn sections(sheet: &[u8], flow: &mut [u8], name: &[u8], spot: Spot, d: u64) -> O
     ensures { Follows sheet.now name.now spot flow.old (sections_from d 5 0 (drop spot.at sheet.now)) result flow.new }
 {
     let mut here = spot;
-    let mut x: usize = 0;
-    while x < 5 {
-        let behind = section(sheet, &mut *flow, name, here, x, d)?;
-        here = behind;
-        x += 1;
+    for x in 0..5 {
+        here = section(sheet, flow, name, here, x, d)?;
     }
     Some(here)
 }
@@ -179,10 +170,10 @@ fn delega(sheet: &[u8], flow: &mut [u8], name: &[u8], spot: Spot, d: u64) -> Opt
     requires { Here sheet.now spot flow.old × (length name.now ≡ 20) × (d < 10_000_000) }
     ensures { Follows sheet.now name.now spot flow.old (one_delega d (drop spot.at sheet.now)) result flow.new }
 {
-    let ten = record(sheet, &mut *flow, name, spot, Kind::Taxpayer, d)?;
-    let twenty = record(sheet, &mut *flow, name, ten, Kind::Domicile, d)?;
-    let lines = sections(sheet, &mut *flow, name, twenty, d)?;
-    record(sheet, &mut *flow, name, lines, Kind::Payment, d)
+    let ten = record(sheet, flow, name, spot, Kind::Taxpayer, d)?;
+    let twenty = record(sheet, flow, name, ten, Kind::Domicile, d)?;
+    let lines = sections(sheet, flow, name, twenty, d)?;
+    record(sheet, flow, name, lines, Kind::Payment, d)
 }
 
 // n deleghe, numbered from 1.
@@ -191,11 +182,8 @@ fn deleghe(sheet: &[u8], flow: &mut [u8], name: &[u8], spot: Spot, n: u64) -> Op
     ensures { Follows sheet.now name.now spot flow.old (deleghe_from n 1 (drop spot.at sheet.now)) result flow.new }
 {
     let mut here = spot;
-    let mut d: u64 = 0;
-    while d < n {
-        let behind = delega(sheet, &mut *flow, name, here, d + 1)?;
-        here = behind;
-        d += 1;
+    for d in 0..n {
+        here = delega(sheet, flow, name, here, d + 1)?;
     }
     Some(here)
 }
@@ -209,7 +197,7 @@ fn counted_deleghe(sheet: &[u8], flow: &mut [u8], name: &[u8], spot: Spot) -> Op
         return None;
     };
     let behind = beyond(spot, 3);
-    deleghe(sheet, &mut *flow, name, behind, n)
+    deleghe(sheet, flow, name, behind, n)
 }
 
 // A spot at the start of a sheet.
@@ -232,9 +220,9 @@ pub fn read_sheet(sheet: &[u8], flow: &mut [u8]) -> Option<Spot>
         return None;
     }
     let name = &sheet[Part::SUPPORT_NAME..Part::SUPPORT_NAME_END];
-    let head = record(sheet, &mut *flow, name, start(), Kind::Head, 0)?;
-    let all = counted_deleghe(sheet, &mut *flow, name, head)?;
-    let end = record(sheet, &mut *flow, name, all, Kind::Tail, 0)?;
+    let head = record(sheet, flow, name, start(), Kind::Head, 0)?;
+    let all = counted_deleghe(sheet, flow, name, head)?;
+    let end = record(sheet, flow, name, all, Kind::Tail, 0)?;
     if end.at == sheet.len() {
         return Some(end);
     }

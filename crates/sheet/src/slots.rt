@@ -5,9 +5,10 @@ ghost use Rattle.amounts.specs.Names.{same_bytes};
 ghost use Rattle.sheet.specs.Slots.{type_text, subtype_text, slot_fault, made_balance};
 
 use layout::{Flow, Kind, Part, Position};
-use refusal::Fault;
+use refusal::{Fault, Fault};
 
 // The characters of the type of a kind.
+#[tactic(auto, unfolding(crate::specs::Slots::type_text))]
 fn type_text(slot: Kind) -> [u8; 2]
     ensures { result ≡ type_text slot }
 {
@@ -15,11 +16,8 @@ fn type_text(slot: Kind) -> [u8; 2]
         Kind::Head => [b'F', b'4'],
         Kind::Taxpayer => [b'1', b'0'],
         Kind::Domicile => [b'2', b'0'],
-        Kind::Line(_) => [b'4', b'0'],
-        Kind::Balance(_) => [b'4', b'0'],
-        Kind::Payment => [b'5', b'0'],
-        Kind::Receipt => [b'5', b'0'],
-        Kind::Addressee => [b'5', b'0'],
+        Kind::Line(_) | Kind::Balance(_) => [b'4', b'0'],
+        Kind::Payment | Kind::Receipt | Kind::Addressee => [b'5', b'0'],
         Kind::Tail => [b'E', b'F'],
         Kind::Unknown => [b' ', b' '],
     }
@@ -36,21 +34,18 @@ fn has_subtype(rec: &[u8], n: u64) -> bool
 }
 
 // Whether a record has the subtype of its slot's kind, where that has one.
+#[tactic(auto, unfolding(crate::specs::Slots::subtype_text, amounts::specs::Names::same_bytes))]
 fn subtype_fits(slot: Kind, rec: &[u8]) -> bool
     requires { length rec.now ≡ 120 }
     ensures { result ≡ same_bytes (take (length (subtype_text slot)) (drop 10 rec.now)) (subtype_text slot) }
 {
     match slot {
-        Kind::Head => true,
-        Kind::Taxpayer => true,
-        Kind::Domicile => true,
         Kind::Line(s) => has_subtype(rec, layout::section_at(s).line_subtype),
         Kind::Balance(s) => has_subtype(rec, layout::section_at(s).balance_subtype),
         Kind::Payment => has_subtype(rec, 1),
         Kind::Receipt => has_subtype(rec, 2),
         Kind::Addressee => has_subtype(rec, 3),
-        Kind::Tail => true,
-        Kind::Unknown => true,
+        _ => true,
     }
 }
 
@@ -59,8 +54,7 @@ pub fn slot_fault(slot: Kind, rec: &[u8]) -> Result<(), Fault>
     requires { length rec.now ≡ 120 }
     ensures { result ≡ slot_fault slot rec.now }
 {
-    let own = type_text(slot);
-    if amounts::same_bytes(&rec[Part::TYPE..Part::TYPE + 2], &own) {
+    if amounts::same_bytes(&rec[Part::TYPE..Part::TYPE + 2], &type_text(slot)) {
         if subtype_fits(slot, rec) {
             return Ok(());
         }

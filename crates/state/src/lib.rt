@@ -9,37 +9,30 @@ use order::Stage;
 use rules::{DelegaSums, Money, State};
 
 // Writes numbers at the start of a room.
+#[tactic(auto, unfolding(crate::specs::Numbers::overlay))]
 pub fn put(room: &mut [u64], numbers: &[u64])
     requires { length numbers.now ≤ length room.old }
     ensures { room.new ≡ overlay numbers.now room.old }
 {
-    let mut i: usize = 0;
-    while i < numbers.len() {
-        room[i] = numbers[i];
-        i += 1;
-    }
+    room[..numbers.len()].copy_from_slice(numbers);
 }
 
 // The numbers of a state.
 fn state_numbers(st: State) -> [u64; 29]
     ensures { result ≡ state_numbers st }
 {
-    let stage = st.stage;
-    let money = st.money;
-    let delega = money.delega;
-    let all = delega.all;
-    let sections = delega.sections;
-    let flow = money.flow;
+    let sections = st.money.delega.sections;
+    let flow = st.money.flow;
     [
         st.seen as u64,
         st.others as u64,
         st.deleghe,
-        stage.phase as u64,
-        stage.section as u64,
-        stage.lines,
-        money.total,
-        all.debit,
-        all.credit,
+        u64::from(st.stage.phase),
+        st.stage.section as u64,
+        st.stage.lines,
+        st.money.total,
+        st.money.delega.all.debit,
+        st.money.delega.all.credit,
         sections[0].debit,
         sections[0].credit,
         sections[1].debit,
@@ -63,36 +56,35 @@ fn state_numbers(st: State) -> [u64; 29]
     ]
 }
 
+// A debit, and the credit behind it.
+fn pair_at(numbers: &[u64], at: usize) -> Sums
+    requires { at + 2 ≤ length numbers.now }
+    ensures debit { result.debit ≡ get_or numbers.now at 0 }
+    ensures credit { result.credit ≡ get_or numbers.now (at + 1) 0 }
+{
+    Sums {
+        debit: numbers[at],
+        credit: numbers[at + 1],
+    }
+}
+
 // The sums of the five sections that stand from a place on.
+#[tactic(auto, unfolding(crate::specs::Numbers::sums_at))]
 pub fn sums_at(numbers: &[u64], at: usize) -> [Sums; 5]
     requires { at + 10 ≤ length numbers.now }
     ensures { result ≡ sums_at numbers.now at }
 {
     [
-        Sums {
-            debit: numbers[at],
-            credit: numbers[at + 1],
-        },
-        Sums {
-            debit: numbers[at + 2],
-            credit: numbers[at + 3],
-        },
-        Sums {
-            debit: numbers[at + 4],
-            credit: numbers[at + 5],
-        },
-        Sums {
-            debit: numbers[at + 6],
-            credit: numbers[at + 7],
-        },
-        Sums {
-            debit: numbers[at + 8],
-            credit: numbers[at + 9],
-        },
+        pair_at(numbers, at),
+        pair_at(numbers, at + 2),
+        pair_at(numbers, at + 4),
+        pair_at(numbers, at + 6),
+        pair_at(numbers, at + 8),
     ]
 }
 
 // The state that numbers say.
+#[tactic(auto, unfolding(crate::specs::Numbers::state_of))]
 fn state_of(kept: &[u64]) -> State
     requires { (length kept.now ≡ 29) × (get_or kept.now 3 0 < 256) }
     ensures { result ≡ state_of kept.now }
@@ -107,10 +99,7 @@ fn state_of(kept: &[u64]) -> State
         money: Money {
             delega: DelegaSums {
                 sections: sums_at(kept, 9),
-                all: Sums {
-                    debit: kept[7],
-                    credit: kept[8],
-                },
+                all: pair_at(kept, 7),
             },
             flow: sums_at(kept, 19),
             total: kept[6],
@@ -125,10 +114,11 @@ pub fn state_in(kept: &[u64]) -> State
     requires { Kept kept.now }
     ensures { result ≡ state_in kept.now }
 {
-    if kept.len() == 0 {
-        return rules::start();
+    if kept.is_empty() {
+        rules::start()
+    } else {
+        state_of(kept)
     }
-    state_of(kept)
 }
 
 // Writes the numbers of a state to a room that has numbers.
@@ -136,9 +126,7 @@ pub fn keep(kept: &mut [u64], st: State)
     requires { Kept kept.old }
     ensures { kept.new ≡ kept_after kept.old st }
 {
-    if kept.len() == 0 {
-        return;
+    if !kept.is_empty() {
+        put(kept, &state_numbers(st));
     }
-    let numbers = state_numbers(st);
-    put(&mut *kept, &numbers);
 }

@@ -19,15 +19,12 @@ pub fn of_lines(flow: &[u8]) -> KeptSums
     requires { length flow.now ≤ 65520 }
     ensures { result ≡ kept_of flow.now }
 {
-    let count = flow.len() / Flow::RECORD;
     let mut st = rules::start();
-    while st.seen < count {
-        let rec = records::record_at(flow, st.seen * Flow::RECORD);
+    for rec in flow.chunks_exact(Flow::RECORD) {
         let kind = records::kind_in(rec);
         st = rules::next_state(st, kind, records::line_sums(rec, kind));
     }
-    let money = st.money;
-    let sums = money.flow;
+    let sums = st.money.flow;
     KeptSums { sums }
 }
 
@@ -35,17 +32,10 @@ pub fn of_lines(flow: &[u8]) -> KeptSums
 fn same(a: KeptSums, b: KeptSums) -> bool
     ensures { result ≡ same_sums a.sums b.sums }
 {
-    let ours = a.sums;
-    let theirs = b.sums;
-    let mut i: usize = 0;
-    while i < 5 {
-        if ours[i].debit != theirs[i].debit {
+    for (x, y) in a.sums.iter().zip(b.sums.iter()) {
+        if x.debit != y.debit || x.credit != y.credit {
             return false;
         }
-        if ours[i].credit != theirs[i].credit {
-            return false;
-        }
-        i += 1;
     }
     true
 }
@@ -54,9 +44,5 @@ fn same(a: KeptSums, b: KeptSums) -> bool
 pub fn matches(kept: KeptSums, flow: &[u8]) -> bool
     ensures { result ≡ matched kept flow.now }
 {
-    if Flow::MOST_BYTES < flow.len() {
-        return false;
-    }
-    let lines = of_lines(flow);
-    same(kept, lines)
+    flow.len() <= Flow::MOST_BYTES && same(kept, of_lines(flow))
 }

@@ -1,5 +1,5 @@
 -- Which characters may stand in a place, by tests that the code makes, and what they count there.
-use Prim.Native.Nat.{ℕ, ◌-◌, ◌<◌, ◌≤◌, ◌%◌}
+use Prim.Native.Nat.{ℕ, ◌<◌, ◌≤◌, ◌%◌}
 use mathlib.Core.Path.{◌≡◌, refl, sym, ◌∙◌}
 use mathlib.Core.Bool.{Bool, true, false, cond, not, false≢true}
 use native.Mathlib.Omega.{arith}
@@ -33,21 +33,9 @@ figure-place k = go (leb k 15) refl
         cond_same false = refl
 
 -- the letters for digits are those from L to V but O
-pub figure-letter : (b : ℕ) → b < 256 → figure b ≡ cond (digit b) true (cond (from_to 76 86 b) (not (eqb b 79)) false)
+pub figure_letter : (b : ℕ) → b < 256 → figure b ≡ cond (digit b) true (cond (from_to 76 86 b) (not (eqb b 79)) false)
 unfolding figure among spelled
-figure-letter b h = alike_same _ _ (each_below (λ b. alike (figure b) (cond (digit b) true (cond (from_to 76 86 b) (not (eqb b 79)) false))) 256 refl b h)
-
--- a digit counts itself in an even place
-pub digit_value : (b : ℕ) → digit b ≡ true → even_value b ≡ b - 48
-unfolding even_value
-digit_value b e = rw e
-
-pub letter-value : (b : ℕ) → digit b ≡ false → even_value b ≡ b - 65
-unfolding even_value
-letter-value b e = rw e
-
-pub digit-least : (b : ℕ) → digit b ≡ true → 48 ≤ b
-digit-least b e = (between 48 57 b e).0
+figure_letter b h = alike_same _ _ (each_below (λ b. alike (figure b) (cond (digit b) true (cond (from_to 76 86 b) (not (eqb b 79)) false))) 256 refl b h)
 
 -- a character by what its place holds, and what it counts there by whether the place is even
 abbrev right_in : Bool → ℕ → Bool

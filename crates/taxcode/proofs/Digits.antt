@@ -4,22 +4,17 @@ use mathlib.Core.Path.{◌≡◌, refl}
 use mathlib.Core.Bool.{Bool, true, false, cond}
 use native.Mathlib.Omega.{arith}
 use lib.Dec.{eqb}
+use Rattle.std.specs.Char.{is_ascii_digit}
+use Rattle.std.proofs.lemmas.Bool.Decides.{nat_tests}
 use Rattle.text.specs.Numbers.{digit}
 use Rattle.text.proofs.Bytes.{between}
 use Rattle.taxcode.specs.Places.{by_place}
 use Rattle.taxcode.specs.Firms.{doubled, count_at}
 use Rattle.taxcode.proofs.Computed.{Tells, tells}
 
--- a byte below the digits counts nothing
-pub no-digit-counts : (k b : ℕ) → b < 48 → count_at k b ≡ 0
-unfolding count_at by_place doubled
-no-digit-counts k b h =
-    let z : b - 48 ≡ 0 = omega arith in
-    rw z (either (eqb (k % 2) 0))
-  where
-    either : (t : Bool) → ◌≡◌ {A = ℕ} (cond t 0 0) 0
-    either true = refl
-    either false = refl
+-- a digit as the library tests it
+pub digit-tested : (b : ℕ) → is_ascii_digit b ≡ digit b
+digit-tested b = grind (arith, nat_tests)
 
 -- in one place the digits count differently, less than 10 each
 pub counts-tell : (k : ℕ) → Tells (λ b. digit b) (count_at k) 10

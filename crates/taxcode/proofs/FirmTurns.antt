@@ -1,13 +1,14 @@
 -- The turns of the loops over a firm's code, and the ways out of them.
 use Prim.Native.Nat.{ℕ, ◌+◌, ◌<◌, ◌≤◌, ◌%◌}
-use mathlib.Core.Path.{◌≡◌, ◌∙◌}
-use mathlib.Core.Bool.{true, false, cond}
-use mathlib.Core.List.{List}
+use mathlib.Core.Path.{◌≡◌, refl, ◌∙◌}
+use mathlib.Core.Bool.{Bool, true, false, cond, ◌&&◌}
+use mathlib.Core.List.{List, [], ◌∷◌}
 use native.Mathlib.Omega.{arith}
 use lib.Dec.{eqb}
 use lib.ListN.{length, get_or, take, drop}
-use lib.Seq.{get_or-take, length-take-le}
+use lib.Seq.{length-take-le}
 use borrow.Author.Tests.{eq-eqb, ne_eqb, le-leb, lt-leb}
+use Rattle.std.specs.List.{list_all}
 use Rattle.text.specs.Numbers.{digit}
 use Rattle.taxcode.specs.Places.{every_from, sum_from}
 use Rattle.taxcode.specs.Firms.{count_at, digit_or_space, firm_right}
@@ -22,6 +23,16 @@ digit-place k b h = rw (le-leb k 11 h)
 pub space-place : (k b : ℕ) → 11 < k → digit_or_space k b ≡ eqb b 32
 unfolding digit_or_space
 space-place k b h = rw (lt-leb k 11 h)
+
+-- behind the eleventh place every character is a space
+pub spaces-behind : (k : ℕ) (l : List ℕ) → 11 < k → list_all (λ b. eqb b 32) l ≡ every_from digit_or_space k l
+unfolding every_from
+spaces-behind k [] h = refl
+spaces-behind k (b ∷ bs) h = rw (space-place k b h, spaces-behind (k + 1) bs (omega arith)) (both (eqb b 32) _)
+  where
+    both : (t y : Bool) → (t && y) ≡ cond t y false
+    both true y = refl
+    both false y = refl
 
 module _ (code : List ℕ) where
   pub firm-length : (length code ≡ 16 → ⊥) → firm_right code ≡ false
@@ -42,20 +53,16 @@ module _ (code : List ℕ) where
       eleven : length (take 11 code) ≡ 11
       eleven = length-take-le 11 code (omega arith)
 
-      pub firm-stop : i < 11 → digit (get_or code i 0) ≡ false → firm_right code ≡ false
-      firm-stop h e =
-          let f = eleven in
-          firm-not (counted-not digit_or_space count_at (take 11 code) sum i c (omega arith) (digit-place (i + 1) _ (omega arith) ∙ rw (get_or-take 11 code i 0 h) e))
+      pub firm-stop : i < length (take 11 code) → digit (get_or (take 11 code) i 0) ≡ false → firm_right code ≡ false
+      firm-stop h e = let f = eleven in firm-not (counted-not digit_or_space count_at (take 11 code) sum i c h (digit-place (i + 1) _ (omega arith) ∙ e))
 
-      pub firm-on : i < 11 → digit (get_or code i 0) ≡ true → Counted digit_or_space count_at (take 11 code) (sum + count_at (i + 1) (get_or code i 0)) (i + 1)
+      pub firm-on : i < length (take 11 code) → digit (get_or (take 11 code) i 0) ≡ true → Counted digit_or_space count_at (take 11 code) (sum + count_at (i + 1) (get_or (take 11 code) i 0)) (i + 1)
       firm-on h e =
           let f = eleven in
-          let s = (counts-tell (i + 1)).small (get_or code i 0) e in
-          let g = get_or-take 11 code i 0 h in
-          rw (← g) (counted-on digit_or_space count_at (take 11 code) sum i c (omega arith) (digit-place (i + 1) _ (omega arith) ∙ rw g e) (rw g (omega arith)))
+          let s = (counts-tell (i + 1)).small (get_or (take 11 code) i 0) e in
+          counted-on digit_or_space count_at (take 11 code) sum i c h (digit-place (i + 1) _ (omega arith) ∙ e) (omega arith)
 
-      pub firm-end : 11 ≤ i → firm_right code ≡ cond (every_from digit_or_space 12 (drop 11 code)) (eqb (sum % 10) 0) false
+      pub firm-end : length (take 11 code) ≤ i → firm_right code ≡ cond (every_from digit_or_space 12 (drop 11 code)) (eqb (sum % 10) 0) false
       firm-end h =
-          let f = eleven in
-          let a = counted-all digit_or_space count_at (take 11 code) sum i c (omega arith) in
+          let a = counted-all digit_or_space count_at (take 11 code) sum i c h in
           rw (← a.1) (firm-is a.0)

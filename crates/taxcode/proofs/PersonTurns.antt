@@ -6,7 +6,6 @@ use mathlib.Core.List.{List}
 use native.Mathlib.Omega.{arith}
 use lib.Dec.{eqb}
 use lib.ListN.{length, get_or, take}
-use lib.Seq.{get_or-take, length-take-le}
 use borrow.Author.Tests.{eq-eqb, ne_eqb}
 use Rattle.taxcode.specs.Places.{every_from}
 use Rattle.taxcode.specs.Persons.{place_right, value_at, last_letter, person_right}
@@ -28,22 +27,14 @@ module _ (code : List ℕ) where
     person-is e = rw (eq-eqb _ _ l, e)
 
     module _ (sum i : ℕ) (c : Counted place_right value_at (take 15 code) sum i) where
-      fifteen : length (take 15 code) ≡ 15
-      fifteen = length-take-le 15 code (omega arith)
+      pub person-stop : i < length (take 15 code) → place_right (i + 1) (get_or (take 15 code) i 0) ≡ false → person_right code ≡ false
+      person-stop h e = person-not (counted-not place_right value_at (take 15 code) sum i c h e)
 
-      pub person-stop : i < 15 → place_right (i + 1) (get_or code i 0) ≡ false → person_right code ≡ false
-      person-stop h e = let f = fifteen in person-not (counted-not place_right value_at (take 15 code) sum i c (omega arith) (rw (get_or-take 15 code i 0 h) e))
-
-      pub person-on : i < 15 → place_right (i + 1) (get_or code i 0) ≡ true → Counted place_right value_at (take 15 code) (sum + value_at (i + 1) (get_or code i 0)) (i + 1)
+      pub person-on : i < length (take 15 code) → place_right (i + 1) (get_or (take 15 code) i 0) ≡ true → Counted place_right value_at (take 15 code) (sum + value_at (i + 1) (get_or (take 15 code) i 0)) (i + 1)
       person-on h e =
-          let f = fifteen in
-          let s = (values-tell (i + 1)).small (get_or code i 0) e in
-          let g = get_or-take 15 code i 0 h in
-          rw (← g) (counted-on place_right value_at (take 15 code) sum i c (omega arith) (rw g e) (rw g (omega arith)))
+          let s = (values-tell (i + 1)).small (get_or (take 15 code) i 0) e in
+          counted-on place_right value_at (take 15 code) sum i c h e (omega arith)
 
-      pub person-end : 15 ≤ i → person_right code ≡ eqb (get_or code 15 0) (65 + sum % 26)
+      pub person-end : length (take 15 code) ≤ i → person_right code ≡ eqb (get_or code 15 0) (65 + sum % 26)
       unfolding last_letter
-      person-end h =
-          let f = fifteen in
-          let a = counted-all place_right value_at (take 15 code) sum i c (omega arith) in
-          rw (← a.1) (person-is a.0)
+      person-end h = let a = counted-all place_right value_at (take 15 code) sum i c h in rw (← a.1) (person-is a.0)

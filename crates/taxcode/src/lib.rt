@@ -26,11 +26,9 @@ impl Code {
 }
 
 // Whether a code can exist, as a person's or as a firm's.
+#[tactic(auto, unfolding(crate::specs::TaxCodes::code_right))]
 pub fn code_right(code: &[u8]) -> bool
     ensures { result ≡ code_right code.now }
 {
-    if person_right(code) {
-        return true;
-    }
-    firm_right(code)
+    person_right(code) || firm_right(code)
 }

@@ -3,7 +3,7 @@ ghost use Rattle.std.specs.Prelude.{◌≡◌};
 ghost use Rattle.taxcode.specs.Persons.{figure, holds_figure, place_right, even_value, person_right};
 
 use crate::Code;
-use crate::places::{by_place, is_digit, is_from, wide};
+use crate::places::by_place;
 
 // What A to Z count in odd places.
 const ODD_VALUES: [u8; 26] = [
@@ -11,55 +11,40 @@ const ODD_VALUES: [u8; 26] = [
 ];
 
 // Whether a byte is a digit, or one of the letters that stand for digits: L to V without O.
+#[tactic(auto, using(crate::proofs::Characters::figure_letter))]
 fn is_figure(b: u8) -> bool
     ensures { result ≡ figure b }
 {
-    if is_digit(b) {
-        return true;
-    }
-    if is_from(b'L', b'V', b) {
-        return b != b'O';
-    }
-    false
+    matches!(b, b'0'..=b'9' | b'L'..=b'N' | b'P'..=b'V')
 }
 
-// Whether a place holds digits, or letters for them: those from 7 to 15, but for the two between that hold letters.
+// Whether a place holds digits, or letters for them.
+#[tactic(auto, unfolding(crate::specs::Persons::holds_figure, text::specs::Among::among))]
 fn holds_figure(k: usize) -> bool
     ensures { result ≡ holds_figure k }
 {
-    if k == 9 {
-        return false;
-    }
-    if k == 12 {
-        return false;
-    }
-    if k < 7 {
-        return false;
-    }
-    k <= 15
+    matches!(k, 7 | 8 | 10 | 11 | 13..=15)
 }
 
 // Whether a byte may stand in a place.
+#[tactic(auto, unfolding(crate::specs::Persons::place_right, crate::specs::Persons::capital))]
 fn place_right(k: usize, b: u8) -> bool
     ensures { result ≡ place_right k b }
 {
     if holds_figure(k) {
-        return is_figure(b);
+        is_figure(b)
+    } else {
+        b.is_ascii_uppercase()
     }
-    is_from(b'A', b'Z', b)
 }
 
 // What a byte counts in an even place: a digit itself, a letter its place from A as 0.
+#[tactic(auto, unfolding(crate::specs::Persons::even_value))]
 fn even_value(b: u8) -> usize
     ensures { result ≡ even_value b }
 {
-    if is_digit(b) {
-        return wide(b - b'0');
-    }
-    if b < b'A' {
-        return 0;
-    }
-    wide(b - b'A')
+    let first = if b.is_ascii_digit() { b'0' } else { b'A' };
+    usize::from(b.saturating_sub(first))
 }
 
 // Whether sixteen characters are a code: fifteen that may stand in their places, and the letter that they give. The table stands in a local, since the
@@ -72,15 +57,12 @@ pub fn person_right(code: &[u8]) -> bool
     }
     let odd = ODD_VALUES;
     let mut sum: usize = 0;
-    let mut i: usize = 0;
-    while i < Code::LAST {
-        let b = code[i];
+    for (i, &b) in code[..Code::LAST].iter().enumerate() {
         if !place_right(i + 1, b) {
             return false;
         }
         let v = even_value(b);
-        sum += by_place(i + 1, v, wide(odd[v]));
-        i += 1;
+        sum += by_place(i + 1, v, usize::from(odd[v]));
     }
-    wide(code[Code::LAST]) == wide(b'A') + sum % 26
+    usize::from(code[Code::LAST]) == usize::from(b'A') + sum % 26
 }

@@ -2,6 +2,7 @@
 use Prim.Native.Nat.{ℕ, zero, suc, ◌+◌, ◌-◌, ◌*◌, ◌/◌, ◌%◌, ◌^◌, ◌<◌, ◌≤◌}
 use mathlib.Core.Path.{◌≡◌, refl, sym, ap, ◌∙◌}
 use mathlib.Core.Bool.{Bool, true, false, cond}
+use mathlib.Core.Logic.{◌⊎◌, inl, inr}
 use mathlib.Core.List.{List, [], ◌∷◌, ◌++◌}
 use native.Mathlib.Numerals.{add-one}
 use native.Mathlib.Omega.{arith}
@@ -26,6 +27,11 @@ module _ (l : List ℕ) (i : ℕ) (h : i < length l) (a : ℕ) where
   pub number-high : 48 ≤ get_or l i 0 → 57 < get_or l i 0 → number_from i a (drop i l) ≡ NonDigit i
   unfolding number_from
   number-high t u = rw (drop-one l i h, le-ltb _ _ t, lt-ltb _ _ u)
+
+  -- A byte outside 48 to 57 is the first that is no digit.
+  pub number-other : (get_or l i 0 < 48) ⊎ (57 < get_or l i 0) → number_from i a (drop i l) ≡ NonDigit i
+  number-other (inl t) = number-low t
+  number-other (inr u) = number-high (omega arith) u
 
   -- After a digit the reading goes on with ten times the number and the digit.
   pub number-on : 48 ≤ get_or l i 0 → get_or l i 0 ≤ 57 → number_from i a (drop i l) ≡ number_from (i + 1) (a * 10 + (get_or l i 0 - 48)) (drop (i + 1) l)

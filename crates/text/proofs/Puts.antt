@@ -3,6 +3,7 @@ use Prim.Native.Nat.{ℕ, ◌+◌, ◌-◌, ◌<◌, ◌≤◌}
 use mathlib.Core.Path.{◌≡◌, refl, sym, ap, ◌∙◌}
 use mathlib.Core.List.{List, ◌++◌, append_assoc}
 use native.Mathlib.Omega.{arith}
+use borrow.Rule.Slice.PartMut.{put_mid}
 use lib.ListN.{length, take, drop, get_or, length-append, length-drop, take-append-drop, get_or-append}
 use lib.Seq.{take_all, length-take-le, drop-append-le, take-append-le, take_at, drop_at, get_or-take, get_or-drop, drop-drop}
 use Rattle.text.specs.Answers.{Allowed}
@@ -105,3 +106,8 @@ puts-commute s bs t cs r h k =
     let m : length (put_at s bs (take t r)) ≡ t = length-put s bs (take t r) (omega arith) ∙ l in
     let e : put_at s bs r ≡ put_at s bs (take t r) ++ drop t r = ap (put_at s bs) (sym (take-append-drop t r)) ∙ put-left s bs (take t r) (drop t r) (omega arith) in
     rw (put_is t cs r, put-left s bs (take t r) _ (omega arith), put_is t cs (put_at s bs r), put-after s bs r (omega arith) (t + length cs) (omega arith), e, take_at (put_at s bs (take t r)) (drop t r) t m)
+
+-- A part of a room that is written over is a put at its place.
+pub put_mid-put : (s n : ℕ) (bs r : List ℕ) → n ≡ length bs → put_mid s n r bs ≡ put_at s bs r
+unfolding put_at
+put_mid-put s n bs r e = rw (e, drop-drop (length bs) s r)

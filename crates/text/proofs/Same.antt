@@ -1,27 +1,27 @@
--- What it is for bytes to be the same, and a turn of the loop that compares them.
-use Prim.Native.Nat.{ℕ, suc, ◌+◌, ◌<◌, ◌≤◌}
+-- What it is for bytes to be the same.
+use Prim.Native.Nat.{ℕ, suc}
 use mathlib.Core.Path.{◌≡◌, refl, ap, ap₂}
-use mathlib.Core.Bool.{Bool, true, false, cond, false≢true}
+use mathlib.Core.Bool.{Bool, true, false, cond, false≢true, ◌&&◌}
 use mathlib.Core.List.{List, [], ◌∷◌}
-use borrow.Author.Tests.{eq-eqb, ne_eqb, eqb-true}
-use lib.ListN.{length, drop, get_or, drop_of_length-le}
+use borrow.Author.Tests.{eq-eqb, eqb-true}
+use lib.ListN.{length}
 use lib.Dec.{eqb}
+use lib.Pointwise.{pointwise}
 use Rattle.text.specs.Same.{same_bytes}
-use Rattle.text.proofs.Bytes.{drop-one}
 
-module _ (l : List ℕ) (i : ℕ) (h : i < length l) (k : List ℕ) (g : i < length k) where
-  pub same_not : (get_or l i 0 ≡ get_or k i 0 → ⊥) → same_bytes (drop i l) (drop i k) ≡ false
-  unfolding same_bytes
-  same_not n = rw (drop-one l i h, drop-one k i g, ne_eqb _ _ n)
-
-  pub same-on : get_or l i 0 ≡ get_or k i 0 → same_bytes (drop i l) (drop i k) ≡ same_bytes (drop (i + 1) l) (drop (i + 1) k)
-  unfolding same_bytes
-  same-on e = rw (drop-one l i h, drop-one k i g, eq-eqb _ _ e)
-
-pub same_end : (l k : List ℕ) (i : ℕ) → length l ≤ i → length k ≤ i → same_bytes (drop i l) (drop i k) ≡ true
+-- Bytes are the same where each pair of them is.
+pub same-pairs : (l k : List ℕ) → same_bytes l k ≡ pointwise eqb l k
 unfolding same_bytes
-same_end l k i h g = rw (drop_of_length-le l h, drop_of_length-le k g)
+same-pairs [] [] = refl
+same-pairs [] (b ∷ bs) = refl
+same-pairs (a ∷ l) [] = refl
+same-pairs (a ∷ l) (b ∷ bs) = go (eqb a b) (same-pairs l bs)
+  where
+    go : (t : Bool) → same_bytes l bs ≡ pointwise eqb l bs → cond t (same_bytes l bs) false ≡ (t && pointwise eqb l bs)
+    go true e = e
+    go false e = refl
 
+-- Lists of which one is longer are not the same.
 pub same-lengths : (l k : List ℕ) → (length l ≡ length k → ⊥) → same_bytes l k ≡ false
 unfolding same_bytes
 same-lengths [] [] n = absurd (n refl)

@@ -15,35 +15,17 @@ pub enum DigitsError {
     TooLong,
 }
 
-fn lesser(a: u8, b: u8) -> u8
-    ensures { result ≡ min a b }
-{
-    if a < b { a } else { b }
-}
-
-fn greater(a: u8, b: u8) -> u8
-    ensures { result ≡ max a b }
-{
-    if a < b { b } else { a }
-}
-
 // The least and the greatest byte say whether all are allowed. The loop has no early exit and no test, so that the compiler takes many bytes at once.
 fn all_allowed(part: &[u8]) -> bool
     ensures { result ≡ all_allowed part.now }
 {
     let mut least: u8 = 126;
     let mut most: u8 = 32;
-    let mut i: usize = 0;
-    while i < part.len() {
-        let b = part[i];
-        least = lesser(b, least);
-        most = greater(b, most);
-        i += 1;
+    for &b in part {
+        least = b.min(least);
+        most = b.max(most);
     }
-    if least < 32 {
-        return false;
-    }
-    most <= 126
+    32 <= least && most <= 126
 }
 
 // The same of four quarters side by side, so that a turn takes four times as many bytes.
@@ -57,26 +39,11 @@ fn quarters_allowed(part: &[u8], quarter: usize) -> bool
     let d = &part[quarter * 3..quarter * 4];
     let mut least: u8 = 126;
     let mut most: u8 = 32;
-    let mut i: usize = 0;
-    while i < quarter {
-        let w = a[i];
-        let x = b[i];
-        let y = c[i];
-        let z = d[i];
-        least = lesser(w, least);
-        most = greater(w, most);
-        least = lesser(x, least);
-        most = greater(x, most);
-        least = lesser(y, least);
-        most = greater(y, most);
-        least = lesser(z, least);
-        most = greater(z, most);
-        i += 1;
+    for i in 0..quarter {
+        least = d[i].min(c[i].min(b[i].min(a[i].min(least))));
+        most = d[i].max(c[i].max(b[i].max(a[i].max(most))));
     }
-    if least < 32 {
-        return false;
-    }
-    most <= 126
+    32 <= least && most <= 126
 }
 
 // The same as `all_allowed`, for a long part: four quarters of whole sixteens, and what is left behind them.
@@ -84,26 +51,17 @@ pub fn long_allowed(part: &[u8]) -> bool
     ensures { result ≡ all_allowed part.now }
 {
     let quarter = part.len() / 64 * 16;
-    if quarters_allowed(part, quarter) {
-        return all_allowed(&part[quarter * 4..]);
-    }
-    false
+    quarters_allowed(part, quarter) && all_allowed(&part[quarter * 4..])
 }
 
 // A part that is not allowed is searched, so that the offset of its first bad byte can be told.
 fn search_bad(part: &[u8]) -> Option<usize>
     ensures { result ≡ first_bad part.now }
 {
-    let mut i: usize = 0;
-    while i < part.len() {
-        let b = part[i];
-        if b < 32 {
+    for (i, &b) in part.iter().enumerate() {
+        if !matches!(b, 32..=126) {
             return Some(i);
         }
-        if 126 < b {
-            return Some(i);
-        }
-        i += 1;
     }
     None
 }
@@ -113,9 +71,10 @@ pub fn first_bad(part: &[u8]) -> Option<usize>
     ensures { result ≡ first_bad part.now }
 {
     if all_allowed(part) {
-        return None;
+        None
+    } else {
+        search_bad(part)
     }
-    search_bad(part)
 }
 
 // The number that a field of at most fifteen digits says. A longer part is refused, so that the sum below never wraps.
@@ -125,18 +84,13 @@ pub fn number(part: &[u8]) -> Result<u64, DigitsError>
     if 15 < part.len() {
         return Err(DigitsError::TooLong);
     }
-    let mut i: usize = 0;
     let mut n: u64 = 0;
-    while i < part.len() {
-        let b = part[i] as u64;
-        if b < 48 {
+    for (i, &b) in part.iter().enumerate() {
+        if !b.is_ascii_digit() {
             return Err(DigitsError::NonDigit(i));
         }
-        if 57 < b {
-            return Err(DigitsError::NonDigit(i));
-        }
-        n = n * 10 + (b - 48);
-        i += 1;
+        // Widened before the difference, which saves an instruction a byte.
+        n = n * 10 + (u64::from(b) - 48);
     }
     Ok(n)
 }
@@ -145,13 +99,7 @@ pub fn number(part: &[u8]) -> Result<u64, DigitsError>
 fn part_fits(at: usize, width: usize, len: usize) -> bool
     ensures { result ≡ part_fits at width len }
 {
-    if len < at {
-        return false;
-    }
-    if len - at < width {
-        return false;
-    }
-    true
+    at <= len && width <= len - at
 }
 
 // A number has at most `width` digits where nothing is left of it after that many divisions: no power of ten has to be stored.
@@ -159,10 +107,8 @@ fn spelled(n: u64, width: usize) -> bool
     ensures { result ≡ ltb n (10 ^ width) }
 {
     let mut left = n;
-    let mut i = width;
-    while 0 < i {
-        i -= 1;
-        left = left / 10;
+    for _ in 0..width {
+        left /= 10;
     }
     left == 0
 }
@@ -171,10 +117,7 @@ fn spelled(n: u64, width: usize) -> bool
 fn number_fits(at: usize, width: usize, n: u64, len: usize) -> bool
     ensures { result ≡ number_fits at width n len }
 {
-    if part_fits(at, width, len) {
-        return spelled(n, width);
-    }
-    false
+    part_fits(at, width, len) && spelled(n, width)
 }
 
 // The digits go from the right, as division gives them. Only `put_number` calls this, after its test.
@@ -182,24 +125,10 @@ fn write_digits(room: &mut [u8], at: usize, width: usize, n: u64)
     requires { at + width ≤ length room.old }
     ensures { room.new ≡ put_at at (digits_of width n) room.old }
 {
-    let mut i = width;
     let mut left = n;
-    while 0 < i {
-        i -= 1;
-        room[at + i] = 48 + (left % 10) as u8;
-        left = left / 10;
-    }
-}
-
-// Only `put_part` calls this, after its test, so that no byte of the loop has to be tested.
-fn write_part(room: &mut [u8], at: usize, part: &[u8])
-    requires { at + length part.now ≤ length room.old }
-    ensures { room.new ≡ put_at at part.now room.old }
-{
-    let mut i: usize = 0;
-    while i < part.len() {
-        room[at + i] = part[i];
-        i += 1;
+    for i in (0..width).rev() {
+        room[at + i] = b'0' + (left % 10) as u8;
+        left /= 10;
     }
 }
 
@@ -208,10 +137,11 @@ pub fn put_number(room: &mut [u8], at: usize, width: usize, n: u64) -> bool
     ensures { (result ≡ number_answer at width n room.old) × (room.new ≡ number_bytes at width n room.old) }
 {
     if number_fits(at, width, n, room.len()) {
-        write_digits(&mut *room, at, width, n);
-        return true;
+        write_digits(room, at, width, n);
+        true
+    } else {
+        false
     }
-    false
 }
 
 // The bytes of a part at `at`; whether they are written. Nothing is written unless all of it fits, so that a record is never left half written.
@@ -219,25 +149,16 @@ pub fn put_part(room: &mut [u8], at: usize, part: &[u8]) -> bool
     ensures { (result ≡ part_answer at part.now room.old) × (room.new ≡ part_bytes at part.now room.old) }
 {
     if part_fits(at, part.len(), room.len()) {
-        write_part(&mut *room, at, part);
-        return true;
+        room[at..at + part.len()].copy_from_slice(part);
+        true
+    } else {
+        false
     }
-    false
 }
 
 // Whether two parts hold the same bytes.
 pub fn same_bytes(a: &[u8], b: &[u8]) -> bool
     ensures { result ≡ same_bytes a.now b.now }
 {
-    if a.len() != b.len() {
-        return false;
-    }
-    let mut i: usize = 0;
-    while i < a.len() {
-        if a[i] != b[i] {
-            return false;
-        }
-        i += 1;
-    }
-    true
+    a == b
 }

@@ -20,10 +20,9 @@ fn settle(flow: &mut [u8], misfit: Misfit, room: &mut [u8]) -> Result<usize, Ref
         × (room.new ≡ room_with result (flat (rebalanced start_state (records_of flow.old))) room.old) }
 {
     lenient::judge_kept(flow, misfit.at, misfit.position)?;
-    let surveyed = rebalance::survey(flow);
-    if surveyed.fits {
-        rebalance::rebalance(&mut *flow);
-        text::put_part(&mut *room, 0, flow);
+    if rebalance::survey(flow).fits {
+        rebalance::rebalance(flow);
+        text::put_part(room, 0, flow);
         return Ok(flow.len());
     }
     Err(Refusal::NO_FIT)
@@ -45,6 +44,5 @@ pub fn write(sheet: &[u8], room: &mut [u8]) -> Result<usize, Refusal>
     if Flow::MOST_RECORDS < count {
         return Err(Refusal::LONG_FLOW);
     }
-    let misfit = end.misfit;
-    settle(&mut flow[..count * Flow::RECORD], misfit, &mut *room)
+    settle(&mut flow[..count * Flow::RECORD], end.misfit, room)
 }

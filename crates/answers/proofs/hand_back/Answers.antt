@@ -18,4 +18,4 @@ not-foreign (Refused n r p) a state t = refl
 not-foreign Foreign a state t = absurd (t refl)
 
 pub returns : goal.returns
-returns c = c.put.ensures ∙ (ap (λ (l : List ℕ). overlay l c.args.room.now) c.progress_numbers-numbers.ensures ∙ not-foreign c.args.part.answer c.args.part _ c.in_default.not-Foreign)
+returns c = c.put.ensures ∙ (ap (λ (l : List ℕ). overlay l c.args.room.now) c.progress_numbers.ensures ∙ not-foreign c.args.part.answer c.args.part _ c.in_default.not-Foreign)

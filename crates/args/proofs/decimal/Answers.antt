@@ -1,28 +1,45 @@
-use Rattle.args.proofs.Words.{word-empty, word-long, word_read, read_low, read-high, read-large, read-on, read-end}
+use Prim.Native.Nat.{◌+◌, ◌-◌, ◌*◌, ◌<◌, ◌^◌}
+use mathlib.Core.Path.{◌≡◌, sym, ◌∙◌}
 use native.Mathlib.Omega.{arith}
-use mathlib.Core.Path.{sym, ◌∙◌}
+use borrow.Author.Tests.{eqb-true, eqb-false}
+use lib.ListN.{get_or}
+use Rattle.args.proofs.Words.{word-empty, word-long, word_read, read-other, read-large, read-on, read-end}
+use Rattle.args.proofs.decimal.Goals.{then-is_empty-via-then-is_empty, then-is_empty-via-else-is_empty+then-word-gt20}
 use Rattle.args.proofs.decimal.Goals as goal
 
-pub returns-then-word-eq0 : goal.returns-then-word-eq0
-returns-then-word-eq0 c = sym (word-empty _ c.if-word-eq0.true)
+pub returns-then-is_empty : goal.returns-then-is_empty
+returns-then-is_empty c = elim c.then-is_empty.branch [
+  | then-is_empty-via-then-is_empty w ↦ sym (word-empty _ (eqb-true _ _ (sym c.is_empty.ensures ∙ w.if-is_empty.true)))
+  | then-is_empty-via-else-is_empty+then-word-gt20 w ↦ sym (word-long _ (eqb-false _ _ (sym c.is_empty.ensures ∙ w.if-is_empty.false)) w.if-word-gt20.true)
+]
 
-pub returns-then-word-gt20 : goal.returns-then-word-gt20
-returns-then-word-gt20 c = sym (word-long _ c.if-word-eq0.false c.if-word-gt20.true)
+pub loop-b-init : goal.loop-b-init
+loop-b-init c = (omega arith, word_read _ (eqb-false _ _ (sym c.is_empty.ensures ∙ c.if-is_empty.false)) c.if-word-gt20.false)
 
-pub loop-i-init : goal.loop-i-init
-loop-i-init c = (omega arith, omega arith, word_read _ c.if-word-eq0.false c.if-word-gt20.false)
+pub returns-then-not-is_ascii_digit : goal.returns-then-not-is_ascii_digit
+returns-then-not-is_ascii_digit c =
+    sym (c.loop-b.invariant.1 ∙ read-other _ _ c.loop-b-test.true _ (rw c.if-not-is_ascii_digit.true at c.is_ascii_digit.ensures.cases))
 
-pub returns-then-b-lt48 : goal.returns-then-b-lt48
-returns-then-b-lt48 c = sym (c.loop-i.invariant.2 ∙ read_low _ _ c.loop-i-test.true _ c.if-b-lt48.true)
+pub returns-in_default : goal.returns-in_default
+returns-in_default c =
+    let d = rw c.if-not-is_ascii_digit.false at c.is_ascii_digit.ensures.cases in
+    let h : (c.loop-b.n * 10 < 2 ^ 64 → ⊥) = c.in_default.ensures in
+    sym (c.loop-b.invariant.1 ∙ read-large _ _ c.loop-b-test.true _ d.0 d.1 (omega arith))
 
-pub returns-then-b-gt57 : goal.returns-then-b-gt57
-returns-then-b-gt57 c = sym (c.loop-i.invariant.2 ∙ read-high _ _ c.loop-i-test.true _ c.if-b-lt48.false c.if-b-gt57.true)
+pub returns-in_default-checked_add : goal.returns-in_default-checked_add
+returns-in_default-checked_add c =
+    let d = rw c.if-not-is_ascii_digit.false at c.is_ascii_digit.ensures.cases in
+    let m : (c.loop-b.n * 10 < 2 ^ 64) × (c.in-Some.tens ≡ c.loop-b.n * 10) = c.in-Some.ensures in
+    let h : (c.in-Some.tens + c.from.result < 2 ^ 64 → ⊥) = c.in_default-checked_add.ensures in
+    sym (c.loop-b.invariant.1 ∙ read-large _ _ c.loop-b-test.true _ d.0 d.1 (omega arith))
 
-pub returns-then-d-n : goal.returns-then-d-n
-returns-then-d-n c = sym (c.loop-i.invariant.2 ∙ read-large _ _ c.loop-i-test.true _ c.if-b-lt48.false c.if-b-gt57.false (omega arith))
-
-pub loop-i-preserved : goal.loop-i-preserved
-loop-i-preserved c = (omega arith, omega arith, c.loop-i.invariant.2 ∙ read-on _ _ c.loop-i-test.true _ c.if-b-lt48.false c.if-b-gt57.false)
+pub loop-b-preserved : goal.loop-b-preserved
+loop-b-preserved c =
+    let d = rw c.if-not-is_ascii_digit.false at c.is_ascii_digit.ensures.cases in
+    let m : (c.loop-b.n * 10 < 2 ^ 64) × (c.in-Some.tens ≡ c.loop-b.n * 10) = c.in-Some.ensures in
+    let s : (c.in-Some.tens + c.from.result < 2 ^ 64) × (c.in-Some-checked_add.more ≡ c.in-Some.tens + c.from.result) = c.in-Some-checked_add.ensures in
+    let e : c.loop-b.n * 10 + (get_or c.args.word.now c.loop-b.b-index 0 - 48) ≡ c.in-Some-checked_add.more = omega arith in
+    (omega arith, c.loop-b.invariant.1 ∙ (read-on _ _ c.loop-b-test.true _ d.0 d.1 ∙ rw e))
 
 pub returns : goal.returns
-returns c = sym (c.loop-i.invariant.2 ∙ read-end _ _ _ c.loop-i-test.false c.loop-i.invariant.1)
+returns c = sym (c.loop-b.invariant.1 ∙ read-end _ _ _ c.loop-b-test.false c.loop-b.invariant.0)

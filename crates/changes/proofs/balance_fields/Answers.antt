@@ -14,9 +14,3 @@ amount_at-debit-requires c = rw c.section_at-section.ensures (omega (arith, near
 
 pub amount_at-credit-requires : goal.amount_at-credit-requires
 amount_at-credit-requires c = rw c.section_at-section.ensures (omega (arith, near-rule c.args.s))
-
-pub returns-then-section : goal.returns-then-section
-returns-then-section c = rw (← c.section_at-section.ensures, c.if-section.true) (simp (c.amount_at-balance.ensures, c.amount_at-debit.ensures, c.amount_at-credit.ensures))
-
-pub returns : goal.returns
-returns c = rw (← c.section_at-section.ensures, c.if-section.false) (simp (c.two_fields.ensures, c.amount_at-balance.ensures))

@@ -3,12 +3,11 @@ use Rattle.order.proofs.Fitting.{turned}
 use Rattle.close.specs.Closing.{stays}
 use Rattle.close.proofs.is_kept.Goals as goal
 
-pub returns-then-is_numbered : goal.returns-then-is_numbered
+pub returns-then-not-is_numbered : goal.returns-then-not-is_numbered
 unfolding stays
-returns-then-is_numbered c =
-    let q = c in
-    rw (← q.requires.1, ← q.is_numbered.ensures, c.if-is_numbered.true, ← c.number_in.ensures, ← c.names.ensures) (turned c.names.result)
+returns-then-not-is_numbered c = rw (← c.requires.1, ← c.is_numbered.ensures, c.if-not-is_numbered.true)
 
-pub returns : goal.returns
+pub returns-else-not-is_numbered : goal.returns-else-not-is_numbered
 unfolding stays
-returns c = rw (← c.requires.1, ← c.is_numbered.ensures, c.if-is_numbered.false)
+returns-else-not-is_numbered c =
+    rw (← c.requires.1, ← c.is_numbered.ensures, c.if-not-is_numbered.false, ← c.number_in.ensures, ← c.names.ensures) (turned c.names.result)

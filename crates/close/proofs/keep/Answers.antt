@@ -1,8 +1,6 @@
 -- `close::keep` meets its contract.
 use mathlib.Core.Path.{◌≡◌}
-use native.Mathlib.Omega.{arith}
 use lib.ListN.{length}
-use Rattle.rules.proofs.Growth.{deleghe-on}
 use Rattle.records.proofs.Sizes.{record-sized}
 use Rattle.close.proofs.Closed.{record-stays, record-goes}
 use Rattle.close.proofs.keep.Goals as goal
@@ -17,13 +15,6 @@ kind_in-kind-requires c = sized c
 
 pub is_kept-requires : goal.is_kept-requires
 is_kept-requires c = (sized (goal.at.is_kept-requires c).After-record_at-rec, c.kind_in-kind.ensures)
-
-pub move_record-requires : goal.move_record-requires
-move_record-requires c =
-    let s = c in
-    let e = c.next_deleghe-deleghe.ensures in
-    let d = deleghe-on s.args.k s.args.kept.deleghe c.kind_in-kind.result s.requires.counted in
-    (omega (arith, s.requires.more), omega (arith, s.requires.few), omega (arith, s.requires.whole.short, s.requires.more))
 
 pub returns-then-is_kept : goal.returns-then-is_kept
 returns-then-is_kept c =

@@ -7,12 +7,14 @@ use Rattle.correct.proofs.Putting.{line-room}
 use native.Mathlib.Omega.{arith}
 use mathlib.Core.Path.{refl, sym, ◌∙◌}
 use Rattle.correct.proofs.try_line.Goals as goal
+use Rattle.correct.proofs.try_line.Goals.{then-debit-gt-LARGEST-via-then-debit-gt-LARGEST, then-debit-gt-LARGEST-via-else-debit-gt-LARGEST+then-credit-gt-LARGEST}
 
 pub returns-then-debit-gt-LARGEST : goal.returns-then-debit-gt-LARGEST
-returns-then-debit-gt-LARGEST c = (sym (tried-debit _ _ _ _ _ c.if-debit-gt-LARGEST.true), refl)
-
-pub returns-then-credit-gt-LARGEST : goal.returns-then-credit-gt-LARGEST
-returns-then-credit-gt-LARGEST c = (sym (tried-credit _ _ _ _ _ c.if-debit-gt-LARGEST.false c.if-credit-gt-LARGEST.true), refl)
+returns-then-debit-gt-LARGEST c =
+    elim c.then-debit-gt-LARGEST.branch [
+      | then-debit-gt-LARGEST-via-then-debit-gt-LARGEST w ↦ (sym (tried-debit _ _ _ _ _ w.if-debit-gt-LARGEST.true), refl)
+      | then-debit-gt-LARGEST-via-else-debit-gt-LARGEST+then-credit-gt-LARGEST w ↦ (sym (tried-credit _ _ _ _ _ w.if-debit-gt-LARGEST.false w.if-credit-gt-LARGEST.true), refl)
+    ]
 
 pub overflow_add-start : goal.overflow_add-start
 overflow_add-start c = let s = c in let w = s.requires.0.short in let k = s.requires.1.within in rw c.section_at-section.ensures (omega (arith, near-rule s.args.s))

@@ -2,4 +2,4 @@
 use Rattle.delega.proofs.answer_of.Goals as goal
 
 pub returns : goal.returns
-returns c = simp (c.final_of.ensures, c.size-size.ensures, c.first-first.ensures)
+returns c = simp (c.final_of.ensures, c.size.ensures, c.first.ensures)

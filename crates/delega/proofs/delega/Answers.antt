@@ -6,6 +6,7 @@ use Rattle.judge.specs.Flow.{judged}
 use Rattle.judge.specs.declared.Judgement.{Judgement}
 use Rattle.judge.specs.Refusal.{Accepted}
 use mathlib.Core.List.{List}
+use mathlib.Core.Logic.{inl, inr}
 use Prim.Native.Nat.{ℕ}
 use native.Mathlib.Omega.{arith}
 use mathlib.Core.Path.{◌≡◌, sym, ap, ◌∙◌}
@@ -28,13 +29,16 @@ pub returns-in-Refused : goal.returns-in-Refused
 returns-in-Refused c = c.refused.ensures ∙ sym (delega-of-refused _ _ (ap (λ (j : Judgement). j.verdict) (sym c.judge-judgement.ensures) ∙ c.in-Refused.is))
 
 pub returns-then-number-eq0 : goal.returns-then-number-eq0
-returns-then-number-eq0 c = c.refused-then-number-eq0.ensures ∙ sym (delega-zero _ _ (accepted (goal.at.returns-then-number-eq0 c).In_default) c.if-number-eq0.true)
-
-pub returns-then-summary-number : goal.returns-then-summary-number
-returns-then-summary-number c = c.refused-then-summary-number.ensures ∙ sym (delega-above _ _ (accepted (goal.at.returns-then-summary-number c).In_default) c.if-number-eq0.false (omega (arith, c.if-summary-number.true, count (goal.at.returns-then-summary-number c).In_default)))
+returns-then-number-eq0 c =
+    let p = (goal.at.returns-then-number-eq0 c).In_default in
+    c.refused-then-number-eq0.ensures
+    ∙ (elim c.then-number-eq0.either [
+      | inl e ↦ sym (delega-zero _ _ (accepted p) e)
+      | inr h ↦ sym (delega-above _ _ (accepted p) h.0 (omega (arith, h.1, count p)))
+    ])
 
 pub delega_from-requires : goal.delega_from-requires
 delega_from-requires c = (accepted-means-no-fault _ (accepted (goal.at.delega_from-requires c).In_default)).whole
 
 pub returns : goal.returns
-returns c = c.delega_from.ensures ∙ sym (delega-within _ _ (accepted (goal.at.returns c).In_default) c.if-number-eq0.false (omega (arith, c.if-summary-number.false, count (goal.at.returns c).In_default)))
+returns c = c.delega_from.ensures ∙ sym (delega-within _ _ (accepted (goal.at.returns c).In_default) c.if-number-eq0.false (omega (arith, c.if-judgement-number.false, count (goal.at.returns c).In_default)))

@@ -8,5 +8,5 @@ use Rattle.ep_total.proofs.put_euros.Goals as goal
 pub returns-then-n-lt1000000000 : goal.returns-then-n-lt1000000000
 returns-then-n-lt1000000000 c = append-as c.put_dotted.ensures (sym (euros-dotted _ c.if-n-lt1000000000.true)) (omega arith)
 
-pub returns : goal.returns
-returns c = append-as c.put_decimal.ensures (sym (euros-plain _ c.if-n-lt1000000000.false)) (omega arith)
+pub returns-else-n-lt1000000000 : goal.returns-else-n-lt1000000000
+returns-else-n-lt1000000000 c = append-as c.put_decimal.ensures (sym (euros-plain _ c.if-n-lt1000000000.false)) (omega arith)

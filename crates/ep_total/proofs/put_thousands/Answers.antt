@@ -8,5 +8,5 @@ use Rattle.ep_total.proofs.put_thousands.Goals as goal
 pub returns-then-n-lt1000 : goal.returns-then-n-lt1000
 returns-then-n-lt1000 c = append-as c.put_decimal.ensures (sym (dotted-small _ c.if-n-lt1000.true)) (omega arith)
 
-pub returns : goal.returns
-returns c = append-as (append-on c.put_decimal-end.ensures c.put_group.ensures) (one-dot _ c.if-n-lt1000.false (omega arith)) (omega arith)
+pub returns-else-n-lt1000 : goal.returns-else-n-lt1000
+returns-else-n-lt1000 c = append-as (append-on c.put_decimal-end.ensures c.put_group.ensures) (one-dot _ c.if-n-lt1000.false (omega arith)) (omega arith)

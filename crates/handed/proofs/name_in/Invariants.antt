@@ -1,4 +1,3 @@
-use Prim.Native.Nat.{◌-◌, ◌≤◌}
 use mathlib.Core.Path.{◌≡◌}
 use lib.ListN.{length, drop, replicate}
 use Rattle.text.specs.Placing.{put_at}
@@ -6,7 +5,4 @@ use Rattle.state.specs.Numbers.{overlay}
 use Rattle.handed.proofs.name_in.Given as goal
 
 abbrev pub invariant-loop-i : goal.invariant-loop-i
-invariant-loop-i l = (l.i ≤ 20) × (length l.name ≡ 20) × (overlay l.numbers (replicate 20 0) ≡ put_at l.i (drop l.i l.numbers) l.name)
-
-abbrev pub decreases-loop-i : goal.decreases-loop-i
-decreases-loop-i l = 20 - l.i
+invariant-loop-i l = (length l.name ≡ 20) × (overlay l.numbers (replicate 20 0) ≡ put_at l.i (drop l.i l.numbers) l.name)

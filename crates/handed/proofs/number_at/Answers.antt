@@ -14,4 +14,4 @@ pub returns-then-i-lt33 : goal.returns-then-i-lt33
 returns-then-i-lt33 c = let e = c in let l : length e.args.x.kept ≡ 29 = search (rules, struct-array) in sym (numbers-kept e.args.x l _ e.if-i-lt4.false c.if-i-lt33.true)
 
 pub returns : goal.returns
-returns c = let e = c in let l : length e.args.x.kept ≡ 29 = search (rules, struct-array) in c.wide.ensures ∙ sym (numbers-name e.args.x l _ c.if-i-lt33.false)
+returns c = let e = c in let l : length e.args.x.kept ≡ 29 = search (rules, struct-array) in c.from.ensures ∙ sym (numbers-name e.args.x l _ c.if-i-lt33.false)

@@ -1,112 +1,53 @@
 use Prim.Native.Nat.{ℕ, ◌<◌}
-use mathlib.Core.Path.{◌≡◌, refl, sym, ap, ◌∙◌}
+use mathlib.Core.Path.{◌≡◌, refl, sym, ap, subst, ◌∙◌}
 use mathlib.Core.List.{List}
 use native.Mathlib.Omega.{arith}
-use lib.ListN.{length, take, drop, get_or}
-use lib.Seq.{get_or-take}
-use Rattle.std.specs.Result.{is_err}
-use Rattle.text.specs.Answers.{Digits}
-use Rattle.text.specs.Numbers.{number_of}
+use lib.ListN.{length, take, get_or}
 use Rattle.layout.specs.declared.Field.{Field}
 use Rattle.layout.specs.declared.Fields.{Fields}
-use Rattle.layout.specs.declared.Kind.{Kind}
-use Rattle.layout.specs.Fields.{Within, nowhere, bytes_of}
+use Rattle.layout.specs.Fields.{Within, nowhere}
 use Rattle.refusal.specs.Outcomes.{Fails}
 use Rattle.rules.specs.Checks.{bad_fields}
-use Rattle.records.specs.Reading.{non_digit_at}
 use Rattle.records.proofs.FieldByField.{non-digit-near, bad-on, bad-here, bad-end}
 use Rattle.rebalance.specs.Rebalance.{kept_fields}
-use Rattle.lenient.proofs.KeptFields.{kept-four, kept-listed, kept-within}
+use Rattle.lenient.proofs.KeptFields.{kept-listed, kept-within}
+use borrow.Enum.Refused.{opened}
 use Rattle.lenient.proofs.digits_fault.Goals as goal
-use Rattle.lenient.proofs.digits_fault.Goals.{After-read_field-said, At-loop-f, In-loop-f}
-
-abbrev AtLoop : Type 0
-AtLoop = At-loop-f
-
-abbrev kind : AtLoop → Kind
-kind c = c.args.kind
-
-abbrev rec : AtLoop → List ℕ
-rec c = c.args.rec.now
-
-abbrev count : AtLoop → ℕ
-count c = c.kept_count-count.result
-
-abbrev list : AtLoop → List Field
-list c = c.fields_of-fields.result.fields
+use Rattle.lenient.proofs.digits_fault.Goals.{After-kept_count}
 
 -- The fields that are looked at are those that are not stored.
-kept-are : (c : AtLoop) → take (count c) (list c) ≡ kept_fields (kind c)
+abbrev looked : After-kept_count → List Field
+looked c = take c.kept_count.result c.fields_of-fields.result.fields
+
+kept-are : (c : After-kept_count) → looked c ≡ kept_fields c.args.kind
 kept-are c =
-    ap (λ (n : ℕ). take n (list c)) c.kept_count-count.ensures
-    ∙ (ap (λ (x : Fields). take (length (kept_fields (kind c))) x.fields) c.fields_of-fields.ensures ∙ kept-listed (kind c))
+    ap (λ (n : ℕ). take n c.fields_of-fields.result.fields) c.kept_count.ensures
+    ∙ (ap (λ (x : Fields). take (length (kept_fields c.args.kind)) x.fields) c.fields_of-fields.ensures ∙ kept-listed c.args.kind)
 
-held : (c : AtLoop) → bad_fields (kept_fields (kind c)) (rec c) ≡ bad_fields (drop c.loop-f.f (take (count c) (list c))) (rec c)
-held c = sym (ap (λ (fl : List Field). bad_fields fl (rec c)) (kept-are c)) ∙ c.loop-f.invariant
+field-within : (c : After-kept_count) (j : ℕ) → j < length (looked c) → Within (get_or (looked c) j nowhere)
+field-within c j h = subst (λ (fl : List Field). Within (get_or fl j nowhere)) (sym (kept-are c)) (kept-within c.args.kind j (omega (arith, h, ap length (kept-are c))))
 
--- A field is looked at.
-abbrev AtField : Type 0
-AtField = In-loop-f
+all : (c : After-kept_count) → bad_fields (looked c) c.args.rec.now ≡ bad_fields (kept_fields c.args.kind) c.args.rec.now
+all c = ap (λ (fl : List Field). bad_fields fl c.args.rec.now) (kept-are c)
 
-abbrev f-of : AtField → ℕ
-f-of c = c.loop-f.f
-
-in_kept : (c : AtField) → f-of c < length (kept_fields (kind (goal.at.offset_bounds-list-f c).At-loop-f))
-in_kept c = let e = c.kept_count-count.ensures in let t = c.loop-f-test.true in omega arith
-
-inside : (c : AtField) → f-of c < length (take (count (goal.at.offset_bounds-list-f c).At-loop-f) (list (goal.at.offset_bounds-list-f c).At-loop-f))
-inside c = rw (kept-are (goal.at.offset_bounds-list-f c).At-loop-f) (in_kept c)
-
-in_four : (c : AtField) → f-of c < 4
-in_four c = omega (arith, in_kept c, kept-four (kind (goal.at.offset_bounds-list-f c).At-loop-f))
-
-field_is : (c : AtField) → get_or (list (goal.at.offset_bounds-list-f c).At-loop-f) (f-of c) nowhere ≡ get_or (take (count (goal.at.offset_bounds-list-f c).At-loop-f) (list (goal.at.offset_bounds-list-f c).At-loop-f)) (f-of c) nowhere
-field_is c = sym (get_or-take (count (goal.at.offset_bounds-list-f c).At-loop-f) (list (goal.at.offset_bounds-list-f c).At-loop-f) (f-of c) nowhere c.loop-f-test.true)
-
-field-within : (c : AtField) → Within (get_or (list (goal.at.offset_bounds-list-f c).At-loop-f) (f-of c) nowhere)
-field-within c = rw (field_is c, kept-are (goal.at.offset_bounds-list-f c).At-loop-f) (kept-within (kind (goal.at.offset_bounds-list-f c).At-loop-f) (f-of c) (in_kept c))
-
--- It has been read.
-read : (c : AtField) (d : Digits) → let l = (goal.at.offset_bounds-list-f c).At-loop-f in d ≡ number_of (bytes_of (rec l) (get_or (list l) (f-of c) nowhere)) → d ≡ number_of (bytes_of (rec l) (get_or (take (count l) (list l)) (f-of c) nowhere))
-read c d e = e ∙ ap (λ (x : Field). number_of (bytes_of (rec (goal.at.offset_bounds-list-f c).At-loop-f) x)) (field_is c)
-
-pub loop-f-init : goal.loop-f-init
-loop-f-init c = refl
-
-pub offset_bounds-list-f : goal.offset_bounds-list-f
-offset_bounds-list-f c = omega (arith, in_four c)
-
-pub bounds-list-f : goal.bounds-list-f
-bounds-list-f c = in_four c
+pub loop-field-init : goal.loop-field-init
+loop-field-init c = refl
 
 pub read_field-said-requires : goal.read_field-said-requires
-read_field-said-requires c = (c.requires, field-within (goal.at.read_field-said-requires c).In-loop-f)
+read_field-said-requires c = (c.requires, field-within (goal.at.read_field-said-requires c).After-kept_count c.loop-field.field-index c.loop-field-test.true)
 
 pub non_digit_at-requires : goal.non_digit_at-requires
-non_digit_at-requires c = let p = (goal.at.non_digit_at-requires c).In-loop-f in non-digit-near _ (rec (goal.at.non_digit_at-requires c).At-loop-f) (field-within p) _ c.read_field-said.ensures
+non_digit_at-requires c = non-digit-near _ _ (field-within (goal.at.non_digit_at-requires c).After-kept_count c.loop-field.field-index c.loop-field-test.true) _ c.read_field-said.ensures
 
 pub returns-in_default : goal.returns-in_default
 returns-in_default c =
-    let r = (goal.at.returns-in_default c).After-read_field-said in
-    let p = (goal.at.returns-in_default c).In-loop-f in
-    ap (Fails 7) (c.non_digit_at.ensures ∙ ap (λ (x : Field). non_digit_at x r.read_field-said.result) (field_is p)) ∙ sym (held (goal.at.returns-in_default c).At-loop-f ∙ bad-here _ _ _ (inside p) _ (read p _ r.read_field-said.ensures) (ap is_err c.in_default.is))
+    let k = (goal.at.returns-in_default c).After-kept_count in
+    ap (Fails 7) c.non_digit_at.ensures ∙ sym (sym (all k) ∙ c.loop-field.invariant ∙ bad-here _ _ _ c.loop-field-test.true _ c.read_field-said.ensures (opened c.in_default.in_default-own.keys2))
 
-pub overflow_add-f : goal.overflow_add-f
-overflow_add-f c = omega (arith, in_four (goal.at.overflow_add-f c).In-loop-f)
-
-pub loop-f-smaller : goal.loop-f-smaller
-loop-f-smaller c = let t = c.loop-f-test.true in omega arith
-
-pub loop-f-preserved : goal.loop-f-preserved
-loop-f-preserved c =
-    let r = (goal.at.loop-f-preserved c).After-read_field-said in
-    let p = (goal.at.loop-f-preserved c).In-loop-f in
-    p.loop-f.invariant ∙ bad-on _ _ _ (inside p) _ (sym (read p _ r.read_field-said.ensures) ∙ c.in-Ok.is)
+pub loop-field-preserved : goal.loop-field-preserved
+loop-field-preserved c = c.loop-field.invariant ∙ bad-on _ _ _ c.loop-field-test.true _ (sym c.read_field-said.ensures ∙ c.in-Number.is)
 
 pub returns : goal.returns
 returns c =
-    let l = (goal.at.returns c).At-loop-f in
-    let e = ap length (kept-are l) in
-    let n = l.kept_count-count.ensures in
-    let t = c.loop-f-test.false in
-    sym (held l ∙ bad-end _ (rec l) l.loop-f.f (omega arith))
+    let k = (goal.at.returns c).After-kept_count in
+    sym (sym (all k) ∙ c.loop-field.invariant ∙ bad-end _ _ _ c.loop-field-test.false)

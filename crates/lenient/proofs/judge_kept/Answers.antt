@@ -1,93 +1,62 @@
-use Prim.Native.Nat.{ℕ, ◌/◌, ◌<◌}
-use mathlib.Core.Path.{◌≡◌, sym, ap, ◌∙◌}
-use mathlib.Core.List.{List}
+use Prim.Native.Nat.{ℕ}
+use mathlib.Core.Path.{◌≡◌, sym, ◌∙◌}
 use native.Mathlib.Omega.{arith}
-use lib.ListN.{length}
-use Rattle.std.specs.Prelude.{Err}
-use Rattle.rules.specs.declared.State.{State}
+use Rattle.rules.specs.State.{start_state}
 use Rattle.rules.specs.Step.{next}
-use Rattle.records.proofs.Sizes.{record-sized}
+use Rattle.judge.proofs.Chunked.{Given, chunked-start, chunk-given, chunk-none}
 use Rattle.rebalance.specs.Weigh.{Turn}
 use Rattle.rebalance.proofs.Turns.{next-by, turn-room}
-use Rattle.lenient.proofs.Judging.{fault-by, Judging, judging-start, judging-end, judging-refuses, judging-on}
+use Rattle.lenient.proofs.Judging.{fault-by, judging-start, judging-end, judging-refuses, judging-on}
 use Rattle.lenient.proofs.judge_kept.Goals as goal
-use Rattle.lenient.proofs.judge_kept.Goals.{After-next_state-st, After-record_at-rec, Start}
+use Rattle.lenient.proofs.judge_kept.Goals.{After-kind_in-kind}
 
--- After `record_at`: the flow, the state before the record, and the record.
-abbrev AtRec : Type 0
-AtRec = After-record_at-rec
+-- The record, as the iterator gives it.
+given : (c : After-kind_in-kind) → Given c.args.flow.now c.loop-rec.st.seen c.in-Some.rec.now c.next.new.self
+given c = chunk-given _ _ _ _ c.loop-rec.invariant.chunked _ c.next.ensures.steps _ c.in-Some.is
 
-abbrev start_of : AtRec → Start
-start_of c = (goal.at.kind_in-kind-requires c).Start
-
-abbrev flow : AtRec → List ℕ
-flow c = (start_of c).args.flow.now
-
-abbrev st : AtRec → State
-st c = c.loop-st.st
-
-abbrev r : AtRec → List ℕ
-r c = c.record_at-rec.result.now
-
-judging : (c : AtRec) → Judging (flow c) (start_of c).args.misfit (start_of c).args.position (st c)
-judging c = c.loop-st.invariant
-
-more : (c : AtRec) → (st c).seen < length (flow c) / 120
-more c = c.loop-st-test.true
-
-turn : (c : AtRec) → Turn (r c) (st c)
+turn : (c : After-kind_in-kind) → Turn c.in-Some.rec.now c.loop-rec.st
 turn c =
-    let m : (st c).seen < length (flow c) / 120 = more c in
+    let g = given c in
     record {
-      sized = ap length c.record_at-rec.ensures ∙ record-sized (flow c) (st c).seen m;
-      few = omega (arith, (start_of c).requires.short);
-      below = (judging c).below;
+      sized = g.sized;
+      few = omega (arith, c.requires.short, g.more);
+      below = c.loop-rec.invariant.judging.below;
     }
 
-pub loop-st-init : goal.loop-st-init
-loop-st-init c = rw c.start-st.ensures (judging-start _ _ _)
-
-pub kind_in-kind-requires : goal.kind_in-kind-requires
-kind_in-kind-requires c = (turn c).sized
+pub loop-rec-init : goal.loop-rec-init
+unfolding start_state
+loop-rec-init c = rw c.start-st.ensures record { judging = judging-start _ _ _; chunked = chunked-start _ _ _ c.into_iter-rec-iterator.ensures.into_iter_gives c.chunks_exact-rec-items.ensures.rest c.chunks_exact-rec-items.ensures.size }
 
 pub record_fault-requires : goal.record_fault-requires
 record_fault-requires c =
-    let t = turn (goal.at.record_fault-requires c).After-record_at-rec in
+    let t = turn c in
     let d = t.below.deleghe-below in
     (t.sized, t.few, omega (arith, t.few))
 
-pub overflow_add-st : goal.overflow_add-st
-overflow_add-st c = omega (arith, (turn (goal.at.overflow_add-st c).After-record_at-rec).few)
+pub overflow_add-result : goal.overflow_add-result
+overflow_add-result c = omega (arith, (turn (goal.at.overflow_add-result c).After-kind_in-kind).few)
 
-pub returns-in-Err : goal.returns-in-Err
-returns-in-Err c =
-    let q = (goal.at.returns-in-Err c).After-record_at-rec in
-    ap Err c.in_record.ensures ∙ judging-refuses (flow q) _ _ (st q) (judging q) (more q) (r q) q.record_at-rec.ensures (sym (c.record_fault.ensures ∙ fault-by _ _ _ _ _ _ c.kind_in-kind.ensures) ∙ c.in-Err.is)
-
-pub line_sums-requires : goal.line_sums-requires
-line_sums-requires c = (turn (goal.at.line_sums-requires c).After-record_at-rec).sized
+pub returns-in-Fault : goal.returns-in-Fault
+returns-in-Fault c =
+    let q = (goal.at.returns-in-Fault c).After-kind_in-kind in
+    let g = given q in
+    judging-refuses _ _ _ _ q.loop-rec.invariant.judging g.more _ g.here (sym (c.record_fault.ensures ∙ fault-by _ _ _ _ _ _ c.kind_in-kind.ensures) ∙ c.in-Fault.is)
 
 pub next_state-st-requires : goal.next_state-st-requires
 next_state-st-requires c =
-    let k = c in
-    let t = turn-room _ _ k.kind_in-kind.result _ (turn (goal.at.next_state-st-requires c).After-record_at-rec) c.line_sums.ensures in
+    let t = turn-room _ _ c.kind_in-kind.result _ (turn (goal.at.next_state-st-requires c).After-kind_in-kind) c.line_sums.ensures in
     record { money_below = t.0; lines_bound = t.1 }
 
--- The state after the record.
-on : (c : After-next_state-st) → let q = (goal.at.loop-st-smaller c).After-record_at-rec in c.next_state-st.result ≡ next (st q) (r q)
-on c = c.next_state-st.ensures ∙ next-by _ _ _ _ c.kind_in-kind.ensures c.line_sums.ensures
-
-pub loop-st-smaller : goal.loop-st-smaller
+pub loop-rec-preserved : goal.loop-rec-preserved
 unfolding next
-loop-st-smaller c = let m = more (goal.at.loop-st-smaller c).After-record_at-rec in rw (on c) (omega arith)
-
-pub loop-st-preserved : goal.loop-st-preserved
-loop-st-preserved c =
-    let q = (goal.at.loop-st-preserved c).After-record_at-rec in
-    rw (on c) (judging-on (flow q) _ _ (st q) (judging q) (more q) (r q) q.record_at-rec.ensures (turn q) (sym (c.record_fault.ensures ∙ fault-by _ _ _ _ _ _ c.kind_in-kind.ensures) ∙ c.in_default.is))
+loop-rec-preserved c =
+    let q = (goal.at.loop-rec-preserved c).After-kind_in-kind in
+    let g = given q in
+    let e : c.next_state-st.result ≡ next q.loop-rec.st q.in-Some.rec.now = c.next_state-st.ensures ∙ next-by _ _ _ _ c.kind_in-kind.ensures c.line_sums.ensures in
+    rw e record { judging = judging-on _ _ _ _ q.loop-rec.invariant.judging g.more _ g.here (turn q) (sym (c.record_fault.ensures ∙ fault-by _ _ _ _ _ _ c.kind_in-kind.ensures) ∙ c.in_default.is); chunked = g.on }
 
 pub ended-requires : goal.ended-requires
-ended-requires c = let a = c.loop-st.invariant.ahead in omega (arith, c.requires.short)
+ended-requires c = let a = c.loop-rec.invariant.judging.ahead in omega (arith, c.requires.short)
 
 pub returns : goal.returns
-returns c = c.ended.ensures ∙ judging-end _ _ _ _ c.loop-st.invariant c.loop-st-test.false
+returns c = c.ended.ensures ∙ judging-end _ _ _ _ c.loop-rec.invariant.judging (chunk-none _ _ _ _ c.loop-rec.invariant.chunked _ c.next.ensures.steps c.in-None.is)

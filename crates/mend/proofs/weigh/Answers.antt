@@ -15,13 +15,13 @@ replace-requires c =
     let p = c in
     let t = p in
     let w = t.requires in
-    copied _ _ t.survey-surveyed.ensures.1 w t.if-surveyed.true _ (copy_is _ _ _ w p.put_part.ensures.1 (lit≤ tt))
+    copied _ _ t.survey.ensures.1 w t.if-survey.true _ (copy_is _ _ _ w p.put_part.ensures.1 (lit≤ tt))
 
-pub returns-then-surveyed : goal.returns-then-surveyed
-returns-then-surveyed c =
+pub returns-then-survey : goal.returns-then-survey
+returns-then-survey c =
     let r = c in
     let t = r in
-    weigh-fits _ _ t.survey-surveyed.ensures.1 _ t.if-surveyed.true _ _ _ (r.replace.ensures.0, r.replace.ensures.1, r.replace.ensures.2)
+    weigh-fits _ _ t.survey.ensures.1 _ t.if-survey.true _ _ _ (r.replace.ensures.0, r.replace.ensures.1, r.replace.ensures.2)
 
 pub returns : goal.returns
-returns c = weigh-unfit _ _ c.survey-surveyed.ensures.1 _ c.if-surveyed.false
+returns c = weigh-unfit _ _ c.survey.ensures.1 _ c.if-survey.false

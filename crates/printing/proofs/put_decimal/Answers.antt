@@ -4,8 +4,8 @@ use Rattle.printing.proofs.Widths.{width-twenty}
 use Rattle.printing.proofs.Appending.{append-decimal}
 use Rattle.printing.proofs.put_decimal.Goals as goal
 
-pub overflow_add-end : goal.overflow_add-end
-overflow_add-end c = omega (arith, width-twenty c.args.n (omega arith))
+pub overflow_add-result : goal.overflow_add-result
+overflow_add-result c = omega (arith, width-twenty c.args.n (omega arith))
 
 pub returns : goal.returns
 returns c =

@@ -1,12 +1,15 @@
+-- `printing::width_of` meets its contract: the logarithm says between which powers of ten the number lies.
+use mathlib.Core.Path.{sym}
 use native.Mathlib.Omega.{arith}
-use Rattle.printing.proofs.Widths.{width_one, width-more, width_some, width-twenty}
+use native.Mathlib.Nat.{pow-suc}
+use native.Mathlib.Numerals.{add-one}
+use Rattle.printing.proofs.Widths.{width_one, width-between}
 use Rattle.printing.proofs.width_of.Goals as goal
 
-pub overflow_add-width : goal.overflow_add-width
-overflow_add-width c = omega (arith, width_some c.loop-left.left, width-twenty c.args.n (omega arith))
+pub returns-in-Some : goal.returns-in-Some
+returns-in-Some c =
+    let l = c.in-Some.ensures.next_power_gt in
+    rw add-one (sym (width-between _ _ c.in-Some.ensures.power_le (rw pow-suc (omega arith))))
 
-pub loop-left-preserved : goal.loop-left-preserved
-loop-left-preserved c = omega (arith, width-more _ c.loop-left-test.true)
-
-pub returns : goal.returns
-returns c = omega (arith, width_one _ c.loop-left-test.false)
+pub returns-in-None : goal.returns-in-None
+returns-in-None c = let z = c.in-None.ensures.none in sym (width_one _ (omega arith))

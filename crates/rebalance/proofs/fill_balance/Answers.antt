@@ -7,11 +7,13 @@ use borrow.Author.Rules.{rules}
 use Rattle.layout.proofs.Table.{near-rule}
 use Rattle.layout.specs.Sections.{section_at}
 use Rattle.layout.specs.declared.Section.{Section}
+use Rattle.rules.specs.Stored.{stored_balance}
+use Rattle.rebalance.specs.Rebalance.{put_all}
 use Rattle.rebalance.proofs.Stores.{totals-written, plain-written}
 use Rattle.layout.proofs.Within.{within-amount}
 use Rattle.rebalance.proofs.Fitting.{totals-fit, plain-fit}
 use Rattle.rebalance.proofs.fill_balance.Goals as goal
-use Rattle.rebalance.proofs.fill_balance.Goals.{After-section_at-section, Start}
+use Rattle.rebalance.proofs.fill_balance.Goals.{After-section_at-section, Start, then-section, else-section}
 
 totals : (c : After-section_at-section) (t : Bool) → c.section_at-section.result.totals ≡ t → (section_at c.args.s).totals ≡ t
 totals c t e = sym (ap (λ (x : Section). x.totals) c.section_at-section.ensures) ∙ e
@@ -39,23 +41,21 @@ store-requires-then-section c =
 pub fill_ends-requires : goal.fill_ends-requires
 fill_ends-requires c =
     let q = (goal.at.fill_ends-requires c).After-section_at-section in
-    let p = (goal.at.fill_ends-requires c).Start in
-    (search rules, (totals-fit p.args.s p.args.t (totals q true c.if-section.true) p.requires.1).2)
-
-pub returns-then-section : goal.returns-then-section
-returns-then-section c =
-    let q = (goal.at.returns-then-section c).After-section_at-section in
-    let p = (goal.at.returns-then-section c).Start in
-    totals-written p.args.s p.args.t p.args.rec.now _ q.section_at-section.ensures c.if-section.true _ _ _ _ _ c.amount_at.ensures c.amount_at-then-section.ensures c.store.ensures c.store-then-section.ensures c.fill_ends.ensures
-
-pub fill_ends-requires-2 : goal.fill_ends-requires-2
-fill_ends-requires-2 c =
-    let q = (goal.at.fill_ends-requires-2 c).After-section_at-section in
-    let p = (goal.at.fill_ends-requires-2 c).Start in
-    (search rules, plain-fit p.args.s p.args.t (totals q false c.if-section.false) p.requires.1)
+    let p = (goal.at.fill_ends-requires c).Start in (
+      search rules,
+      elim c.if-section.branch [
+        | then-section w ↦ (totals-fit p.args.s p.args.t (totals q true w.if-section.true) p.requires.1).2
+        | else-section w ↦ plain-fit p.args.s p.args.t (totals q false w.if-section.false) p.requires.1
+      ],
+    )
 
 pub returns : goal.returns
 returns c =
     let q = (goal.at.returns c).After-section_at-section in
     let p = (goal.at.returns c).Start in
-    plain-written p.args.s p.args.t p.args.rec.now _ q.section_at-section.ensures c.if-section.false _ c.fill_ends-2.ensures
+    elim c.if-section.branch [
+      | then-section w ↦
+          totals-written p.args.s p.args.t p.args.rec.now _ q.section_at-section.ensures w.if-section.true _ _ _ _ _ w.amount_at.ensures w.amount_at-then-section.ensures w.store.ensures w.store-then-section.ensures
+          (c.fill_ends.ensures ∙ ap (put_all (stored_balance p.args.s p.args.t)) w.rec-is)
+      | else-section w ↦ plain-written p.args.s p.args.t p.args.rec.now _ q.section_at-section.ensures w.if-section.false _ (c.fill_ends.ensures ∙ ap (put_all (stored_balance p.args.s p.args.t)) w.rec-is)
+    ]

@@ -1,71 +1,46 @@
-use Prim.Native.Nat.{ℕ, ◌/◌, ◌<◌}
-use mathlib.Core.List.{List}
-use mathlib.Core.Path.{◌≡◌, ap, ◌∙◌}
+use mathlib.Core.Path.{◌≡◌, ◌∙◌}
 use native.Mathlib.Omega.{arith}
-use lib.ListN.{length}
+use Rattle.rules.specs.State.{start_state}
 use Rattle.rules.specs.Step.{next}
-use Rattle.rules.specs.declared.State.{State}
+use Rattle.judge.proofs.Chunked.{Given, chunked-start, chunk-given, chunk-none}
 use Rattle.rebalance.specs.Weigh.{Turn}
 use Rattle.rebalance.proofs.Surveys.{surveying-start, surveying-on, surveying-end}
 use Rattle.rebalance.proofs.Turns.{next-by, turn-room}
-use Rattle.records.proofs.Sizes.{record-sized}
 use Rattle.rebalance.proofs.survey.Goals as goal
-use Rattle.rebalance.proofs.survey.Goals.{After-next_state-st, After-record_at-rec}
+use Rattle.rebalance.proofs.survey.Goals.{After-is_negative-negative}
 
--- After `record_at`: the flow, the state before the record, and the record.
-abbrev AtRec : Type 0
-AtRec = After-record_at-rec
+-- The record, as the iterator gives it.
+given : (c : After-is_negative-negative) → Given c.args.flow.now c.loop-rec.st.seen c.in-Some.rec.now c.next.new.self
+given c = chunk-given _ _ _ _ c.loop-rec.invariant.chunked _ c.next.ensures.steps _ c.in-Some.is
 
-abbrev flow : AtRec → List ℕ
-flow c = c.args.flow.now
-
-abbrev st : AtRec → State
-st c = c.loop-st.st
-
-abbrev r : AtRec → List ℕ
-r c = c.record_at-rec.result.now
-
-more : (c : AtRec) → (st c).seen < length (flow c) / 120
-more c = c.loop-st-test.true
-
-turn : (c : AtRec) → Turn (r c) (st c)
+turn : (c : After-is_negative-negative) → Turn c.in-Some.rec.now c.loop-rec.st
 turn c =
-    let m : (st c).seen < length (flow c) / 120 = more c in
+    let g = given c in
     record {
-      sized = ap length c.record_at-rec.ensures ∙ record-sized (flow c) (st c).seen m;
-      few = omega (arith, c.requires.short);
-      below = c.loop-st.invariant.below;
+      sized = g.sized;
+      few = omega (arith, c.requires.short, g.more);
+      below = c.loop-rec.invariant.surveying.below;
     }
 
-pub loop-st-init : goal.loop-st-init
-loop-st-init c = rw c.start-st.ensures (surveying-start _)
-
-pub kind_in-kind-requires : goal.kind_in-kind-requires
-kind_in-kind-requires c = (turn c).sized
+pub loop-rec-init : goal.loop-rec-init
+unfolding start_state
+loop-rec-init c = rw c.start-st.ensures record { surveying = surveying-start _; chunked = chunked-start _ _ _ c.into_iter-rec-iterator.ensures.into_iter_gives c.chunks_exact-rec-items.ensures.rest c.chunks_exact-rec-items.ensures.size }
 
 pub stored_fit-fits-requires : goal.stored_fit-fits-requires
-stored_fit-fits-requires c = (turn (goal.at.stored_fit-fits-requires c).After-record_at-rec).few
-
-pub line_sums-requires : goal.line_sums-requires
-line_sums-requires c = (turn (goal.at.line_sums-requires c).After-record_at-rec).sized
+stored_fit-fits-requires c = (turn c).few
 
 pub next_state-st-requires : goal.next_state-st-requires
 next_state-st-requires c =
-    let t = turn-room _ _ c.kind_in-kind.result _ (turn (goal.at.next_state-st-requires c).After-record_at-rec) c.line_sums.ensures in
+    let t = turn-room _ _ c.kind_in-kind.result _ (turn (goal.at.next_state-st-requires c).After-is_negative-negative) c.line_sums.ensures in
     record { money_below = t.0; lines_bound = t.1 }
 
--- The state after the record.
-on : (c : After-next_state-st) → c.next_state-st.result ≡ next (st (goal.at.loop-st-smaller c).After-record_at-rec) (r (goal.at.loop-st-smaller c).After-record_at-rec)
-on c = c.next_state-st.ensures ∙ next-by _ _ _ _ c.kind_in-kind.ensures c.line_sums.ensures
-
-pub loop-st-smaller : goal.loop-st-smaller
+pub loop-rec-preserved : goal.loop-rec-preserved
 unfolding next
-loop-st-smaller c = let m = more (goal.at.loop-st-smaller c).After-record_at-rec in rw (on c) (omega arith)
-
-pub loop-st-preserved : goal.loop-st-preserved
-loop-st-preserved c =
-    let q = (goal.at.loop-st-preserved c).After-record_at-rec in
-    rw (on c, c.is_negative-negative.ensures, c.stored_fit-fits.ensures) (surveying-on (flow q) (st q) _ _ q.loop-st.invariant (more q) (r q) c.kind_in-kind.result q.record_at-rec.ensures c.kind_in-kind.ensures (turn q))
+loop-rec-preserved c =
+    let q = (goal.at.loop-rec-preserved c).After-is_negative-negative in
+    let g = given q in
+    let e : c.next_state-st.result ≡ next q.loop-rec.st q.in-Some.rec.now = c.next_state-st.ensures ∙ next-by _ _ _ _ c.kind_in-kind.ensures c.line_sums.ensures in
+    rw (e, c.is_negative-negative.ensures, c.stored_fit-fits.ensures) record { surveying = surveying-on _ _ _ _ q.loop-rec.invariant.surveying g.more _ _ g.here c.kind_in-kind.ensures (turn q); chunked = g.on }
 
 pub returns : goal.returns
-returns c = surveying-end _ _ _ _ c.loop-st.invariant c.loop-st-test.false
+returns c = surveying-end _ _ _ _ c.loop-rec.invariant.surveying (chunk-none _ _ _ _ c.loop-rec.invariant.chunked _ c.next.ensures.steps c.in-None.is)

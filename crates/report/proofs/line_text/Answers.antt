@@ -1,7 +1,8 @@
 -- `report::line_text` meets its contract: a short room is left as it came, and else the word and the number are printed.
 use native.Mathlib.Omega.{arith}
 use Rattle.report.specs.Printed.{line_text}
-use Rattle.report.proofs.Appending.{append-on, printed-all, printed-none}
+use Rattle.printing.proofs.Appending.{append-on}
+use Rattle.report.proofs.Appending.{printed-all, printed-none}
 use Rattle.report.proofs.line_text.Goals as goal
 
 pub returns-then-room-lt-ROOM : goal.returns-then-room-lt-ROOM

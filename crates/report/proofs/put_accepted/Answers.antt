@@ -1,6 +1,6 @@
 -- `report::put_accepted` meets its contract: the word, the four numbers of the first line, and then the lines of the sections.
 use Rattle.report.specs.Printed.{accepted_text}
-use Rattle.report.proofs.Appending.{append-on}
+use Rattle.printing.proofs.Appending.{append-on}
 use Rattle.report.proofs.put_accepted.Goals as goal
 
 pub returns : goal.returns

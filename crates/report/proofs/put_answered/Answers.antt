@@ -1,6 +1,6 @@
 -- `report::put_answered` meets its contract: the word, the five numbers of the first line, and then the lines of the sections.
 use Rattle.report.specs.Printed.{answered_text}
-use Rattle.report.proofs.Appending.{append-on}
+use Rattle.printing.proofs.Appending.{append-on}
 use Rattle.report.proofs.put_answered.Goals as goal
 
 pub returns : goal.returns

@@ -1,6 +1,6 @@
 -- `report::put_field` meets its contract: the number, and then the byte after it.
 use Rattle.report.specs.Printed.{field_text}
-use Rattle.report.proofs.Appending.{append-on}
+use Rattle.printing.proofs.Appending.{append-on}
 use Rattle.report.proofs.put_field.Goals as goal
 
 pub returns : goal.returns

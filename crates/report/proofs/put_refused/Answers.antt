@@ -1,6 +1,6 @@
 -- `report::put_refused` meets its contract: the word, and then the three numbers.
 use Rattle.report.specs.Printed.{refused_text}
-use Rattle.report.proofs.Appending.{append-on}
+use Rattle.printing.proofs.Appending.{append-on}
 use Rattle.report.proofs.put_refused.Goals as goal
 
 pub returns : goal.returns

@@ -1,6 +1,6 @@
 -- `report::put_section` meets its contract: the subtype, a space, and then the two sums.
 use Rattle.report.specs.Printed.{section_text}
-use Rattle.report.proofs.Appending.{append-on}
+use Rattle.printing.proofs.Appending.{append-on}
 use Rattle.report.proofs.put_section.Goals as goal
 
 pub returns : goal.returns

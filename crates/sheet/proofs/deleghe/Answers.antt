@@ -1,11 +1,9 @@
 use Prim.Native.Nat.{ℕ, ◌+◌, ◌-◌}
-use mathlib.Core.Path.{◌≡◌, ap}
 use mathlib.Core.List.{List}
 use lib.ListN.{drop}
-use native.Mathlib.Omega.{arith}
 use Rattle.sheet.specs.declared.Spot.{Spot}
 use Rattle.sheet.specs.Sheet.{Reading, and_then, one_delega, deleghe_from}
-use Rattle.sheet.proofs.Walks.{Going, going_start, going-by, going-then, going-stop, going_end}
+use Rattle.sheet.proofs.Walks.{Going, going-by, going-then, going-stop, going_end}
 use Rattle.sheet.proofs.Steps.{deleghe-on, deleghe-end}
 use Rattle.sheet.proofs.deleghe.Goals as goal
 use Rattle.sheet.proofs.deleghe.Goals.{After-delega}
@@ -24,16 +22,6 @@ behind c = deleghe_from (c.args.n - (c.loop-d.d + 1)) (c.loop-d.d + 1 + 1)
 
 opened : (c : After-delega) → Goes c c.loop-d.here c.loop-d.flow (and_then (next c) (behind c))
 opened c = going-by _ _ _ _ _ _ _ _ _ (deleghe-on c.args.n c.loop-d.d (drop c.loop-d.here.at c.args.sheet.now) c.loop-d-test.true) c.loop-d.invariant
-
-pub loop-d-init : goal.loop-d-init
-loop-d-init c =
-    let s = c in
-    going-by _ _ _ _ _ _ _ _ _ (ap (λ (m : ℕ). deleghe_from m 1 (drop s.args.spot.at s.args.sheet.now)) (let e : s.args.n ≡ s.args.n - 0 = omega arith in e)) (going_start _ _ _ _ _ s.requires.0)
-
-pub delega-requires : goal.delega-requires
-delega-requires c =
-    let s = c in
-    (c.loop-d.invariant.here, s.requires.1, omega (arith, s.requires.2, c.loop-d-test.true))
 
 pub returns-in_default : goal.returns-in_default
 returns-in_default c =

@@ -1,5 +1,4 @@
--- `sheet::deleghe` meets its contract. The loop's invariant: what is left to be read from the present spot gives what the whole does. The measure is the number
--- of deleghe left.
+-- `sheet::deleghe` meets its contract. The loop's invariant: what is left to be read from the present spot gives what the whole does.
 use Prim.Native.Nat.{◌+◌, ◌-◌}
 use lib.ListN.{drop}
 use Rattle.sheet.specs.Sheet.{deleghe_from}
@@ -9,6 +8,3 @@ use Rattle.sheet.proofs.deleghe.Given as goal
 abbrev pub invariant-loop-d : goal.invariant-loop-d
 invariant-loop-d l =
     Going l.sheet l.name l.initial.here l.initial.flow (deleghe_from l.n 1 (drop l.initial.here.at l.sheet)) l.here l.flow (deleghe_from (l.n - l.d) (l.d + 1) (drop l.here.at l.sheet))
-
-abbrev pub decreases-loop-d : goal.decreases-loop-d
-decreases-loop-d l = l.n - l.d

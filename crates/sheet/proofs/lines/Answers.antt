@@ -1,11 +1,10 @@
-use Prim.Native.Nat.{ℕ, ◌-◌}
+use Prim.Native.Nat.{ℕ, ◌+◌, ◌-◌}
 use mathlib.Core.List.{List}
 use lib.ListN.{drop}
-use native.Mathlib.Omega.{arith}
 use Rattle.layout.specs.declared.Kind.TheVariants.{Line}
 use Rattle.sheet.specs.declared.Spot.{Spot}
 use Rattle.sheet.specs.Sheet.{Reading, and_then, one_record, lines_from}
-use Rattle.sheet.proofs.Walks.{Going, going_start, going-by, going-then, going-stop, going_end}
+use Rattle.sheet.proofs.Walks.{Going, going-by, going-then, going-stop, going_end}
 use Rattle.sheet.proofs.Steps.{lines-on, lines_end}
 use Rattle.sheet.proofs.lines.Goals as goal
 use Rattle.sheet.proofs.lines.Goals.{After-record}
@@ -17,32 +16,24 @@ Goes c b g S =
 
 -- The next line, and the lines behind it.
 abbrev next : After-record → Reading
-next c = one_record (Line c.args.x) c.args.d (drop c.loop-left.here.at c.args.sheet.now)
+next c = one_record (Line c.args.x) c.args.d (drop c.loop.here.at c.args.sheet.now)
 
 abbrev behind : After-record → List ℕ → Reading
-behind c = lines_from c.args.x c.args.d (c.loop-left.left - 1)
+behind c = lines_from c.args.x c.args.d (c.args.n - (c.loop.counter + 1))
 
-opened : (c : After-record) → Goes c c.loop-left.here c.loop-left.flow (and_then (next c) (behind c))
-opened c = going-by _ _ _ _ _ _ _ _ _ (lines-on c.args.x c.args.d c.loop-left.left (drop c.loop-left.here.at c.args.sheet.now) c.loop-left-test.true) c.loop-left.invariant
-
-pub loop-left-init : goal.loop-left-init
-loop-left-init c = going_start _ _ _ _ _ c.requires.0
-
-pub record-requires : goal.record-requires
-record-requires c =
-    let s = c in
-    (c.loop-left.invariant.here, s.requires.1, s.requires.2)
+opened : (c : After-record) → Goes c c.loop.here c.loop.flow (and_then (next c) (behind c))
+opened c = going-by _ _ _ _ _ _ _ _ _ (lines-on c.args.x c.args.d c.args.n c.loop.counter (drop c.loop.here.at c.args.sheet.now) c.loop-test.true) c.loop.invariant
 
 pub returns-in_default : goal.returns-in_default
 returns-in_default c =
     let q = (goal.at.returns-in_default c).After-record in
     going-stop _ _ _ _ _ _ _ (next q) (behind q) _ _ (opened q) q.record.ensures c.in_default.is
 
-pub loop-left-preserved : goal.loop-left-preserved
-loop-left-preserved c =
-    let q = (goal.at.loop-left-preserved c).After-record in
+pub loop-preserved : goal.loop-preserved
+loop-preserved c =
+    let q = (goal.at.loop-preserved c).After-record in
     going-then _ _ _ _ _ _ _ (next q) (behind q) _ _ _ (opened q) q.record.ensures c.in-To.is
 
 pub returns : goal.returns
 returns c =
-    going_end _ _ _ _ _ _ _ (going-by _ _ _ _ _ _ _ _ _ (lines_end c.args.x c.args.d c.loop-left.left (drop c.loop-left.here.at c.args.sheet.now) (omega (arith, c.loop-left-test.false))) c.loop-left.invariant)
+    going_end _ _ _ _ _ _ _ (going-by _ _ _ _ _ _ _ _ _ (lines_end c.args.x c.args.d c.args.n c.loop.counter (drop c.loop.here.at c.args.sheet.now) c.loop-test.false) c.loop.invariant)

@@ -3,7 +3,7 @@ use mathlib.Core.List.{List}
 use lib.ListN.{drop}
 use Rattle.sheet.specs.declared.Spot.{Spot}
 use Rattle.sheet.specs.Sheet.{Reading, and_then, counted, one_section, sections_from}
-use Rattle.sheet.proofs.Walks.{Going, going_start, going-by, going-then, going-stop, going_end}
+use Rattle.sheet.proofs.Walks.{Going, going-by, going-then, going-stop, going_end}
 use Rattle.sheet.proofs.Steps.{sections-on, sections-end}
 use Rattle.sheet.proofs.sections.Goals as goal
 use Rattle.sheet.proofs.sections.Goals.{After-section}
@@ -22,14 +22,6 @@ behind c = sections_from c.args.d (5 - (c.loop-x.x + 1)) (c.loop-x.x + 1)
 
 opened : (c : After-section) → Goes c c.loop-x.here c.loop-x.flow (and_then (next c) (behind c))
 opened c = going-by _ _ _ _ _ _ _ _ _ (sections-on c.args.d 5 c.loop-x.x (drop c.loop-x.here.at c.args.sheet.now) c.loop-x-test.true) c.loop-x.invariant
-
-pub loop-x-init : goal.loop-x-init
-loop-x-init c = going_start _ _ _ _ _ c.requires.0
-
-pub section-requires : goal.section-requires
-section-requires c =
-    let s = c in
-    (c.loop-x.invariant.here, s.requires.1, s.requires.2)
 
 pub returns-in_default : goal.returns-in_default
 returns-in_default c =

@@ -1,5 +1,4 @@
--- `sheet::sections` meets its contract. The loop's invariant: what is left to be read from the present spot gives what the whole does. The measure is the number
--- of sections left.
+-- `sheet::sections` meets its contract. The loop's invariant: what is left to be read from the present spot gives what the whole does.
 use Prim.Native.Nat.{◌-◌}
 use lib.ListN.{drop}
 use Rattle.sheet.specs.Sheet.{sections_from}
@@ -9,6 +8,3 @@ use Rattle.sheet.proofs.sections.Given as goal
 abbrev pub invariant-loop-x : goal.invariant-loop-x
 invariant-loop-x l =
     Going l.sheet l.name l.initial.here l.initial.flow (sections_from l.d 5 0 (drop l.initial.here.at l.sheet)) l.here l.flow (sections_from l.d (5 - l.x) l.x (drop l.here.at l.sheet))
-
-abbrev pub decreases-loop-x : goal.decreases-loop-x
-decreases-loop-x l = 5 - l.x

@@ -13,4 +13,4 @@ returns c =
     let s : State = c.args.st in
     let a : length s.money.delega.sections ≡ 5 = search (rules, struct-array) in
     let b : length s.money.flow ≡ 5 = search (rules, struct-array) in
-    rw (five-sums s.money.delega.sections a, five-sums s.money.flow b)
+    rw (c.from.ensures, five-sums s.money.delega.sections a, five-sums s.money.flow b)

@@ -1,69 +1,45 @@
-use Prim.Native.Nat.{ℕ, ◌/◌, ◌<◌}
 use mathlib.Core.List.{List}
 use mathlib.Core.Path.{◌≡◌, ap, ◌∙◌}
 use native.Mathlib.Omega.{arith}
-use lib.ListN.{length}
 use Rattle.amounts.specs.declared.Sums.{Sums}
+use Rattle.rules.specs.State.{start_state}
 use Rattle.rules.specs.Step.{next}
-use Rattle.rules.specs.declared.State.{State}
-use Rattle.records.proofs.Sizes.{record-sized}
+use Rattle.judge.proofs.Chunked.{Given, chunked-start, chunk-given, chunk-none}
 use Rattle.rebalance.specs.Weigh.{Turn}
 use Rattle.rebalance.proofs.Turns.{next-by, turn-room}
 use Rattle.sums.proofs.Adding.{adding-start, adding-on, adding-end}
 use Rattle.sums.proofs.of_lines.Goals as goal
-use Rattle.sums.proofs.of_lines.Goals.{After-next_state-st, After-record_at-rec}
+use Rattle.sums.proofs.of_lines.Goals.{After-line_sums, After-next_state-st}
 
--- After `record_at`: the flow, the state before the record, and the record.
-abbrev AtRec : Type 0
-AtRec = After-record_at-rec
+-- The record, as the iterator gives it.
+given : (c : After-line_sums) → Given c.args.flow.now c.loop-rec.st.seen c.in-Some.rec.now c.next.new.self
+given c = chunk-given _ _ _ _ c.loop-rec.invariant.chunked _ c.next.ensures.steps _ c.in-Some.is
 
-abbrev flow : AtRec → List ℕ
-flow c = c.args.flow.now
-
-abbrev st : AtRec → State
-st c = c.loop-st.st
-
-abbrev r : AtRec → List ℕ
-r c = c.record_at-rec.result.now
-
-more : (c : AtRec) → (st c).seen < length (flow c) / 120
-more c = c.loop-st-test.true
-
-turn : (c : AtRec) → Turn (r c) (st c)
+turn : (c : After-line_sums) → Turn c.in-Some.rec.now c.loop-rec.st
 turn c =
-    let m : (st c).seen < length (flow c) / 120 = more c in
+    let g = given c in
     record {
-      sized = ap length c.record_at-rec.ensures ∙ record-sized (flow c) (st c).seen m;
-      few = omega (arith, c.requires);
-      below = c.loop-st.invariant.below;
+      sized = g.sized;
+      few = omega (arith, c.requires, g.more);
+      below = c.loop-rec.invariant.adding.below;
     }
 
-pub loop-st-init : goal.loop-st-init
-loop-st-init c = rw c.start-st.ensures (adding-start _)
-
-pub kind_in-kind-requires : goal.kind_in-kind-requires
-kind_in-kind-requires c = (turn c).sized
-
-pub line_sums-requires : goal.line_sums-requires
-line_sums-requires c = (turn (goal.at.line_sums-requires c).After-record_at-rec).sized
+pub loop-rec-init : goal.loop-rec-init
+unfolding start_state
+loop-rec-init c = rw c.start-st.ensures record { adding = adding-start _; chunked = chunked-start _ _ _ c.into_iter-rec-iterator.ensures.into_iter_gives c.chunks_exact-rec-items.ensures.rest c.chunks_exact-rec-items.ensures.size }
 
 pub next_state-st-requires : goal.next_state-st-requires
 next_state-st-requires c =
-    let t = turn-room _ _ c.kind_in-kind.result _ (turn (goal.at.next_state-st-requires c).After-record_at-rec) c.line_sums.ensures in
+    let t = turn-room _ _ c.kind_in-kind.result _ (turn c) c.line_sums.ensures in
     record { money_below = t.0; lines_bound = t.1 }
 
--- The state after the record.
-on : (c : After-next_state-st) → c.next_state-st.result ≡ next (st (goal.at.loop-st-smaller c).After-record_at-rec) (r (goal.at.loop-st-smaller c).After-record_at-rec)
-on c = c.next_state-st.ensures ∙ next-by _ _ _ _ c.kind_in-kind.ensures c.line_sums.ensures
-
-pub loop-st-smaller : goal.loop-st-smaller
+pub loop-rec-preserved : goal.loop-rec-preserved
 unfolding next
-loop-st-smaller c = let m = more (goal.at.loop-st-smaller c).After-record_at-rec in rw (on c) (omega arith)
-
-pub loop-st-preserved : goal.loop-st-preserved
-loop-st-preserved c =
-    let q = (goal.at.loop-st-preserved c).After-record_at-rec in
-    rw (on c) (adding-on (flow q) (st q) q.loop-st.invariant (more q) (r q) q.record_at-rec.ensures (turn q))
+loop-rec-preserved c =
+    let q = (goal.at.loop-rec-preserved c).After-line_sums in
+    let g = given q in
+    let e : c.next_state-st.result ≡ next q.loop-rec.st q.in-Some.rec.now = c.next_state-st.ensures ∙ next-by _ _ _ _ c.kind_in-kind.ensures c.line_sums.ensures in
+    rw e record { adding = adding-on _ _ q.loop-rec.invariant.adding g.more _ g.here (turn q); chunked = g.on }
 
 pub returns : goal.returns
-returns c = ap (λ (l : List Sums). record { sums = l }) (adding-end _ _ c.loop-st.invariant c.loop-st-test.false)
+returns c = ap (λ (l : List Sums). record { sums = l }) (adding-end _ _ c.loop-rec.invariant.adding (chunk-none _ _ _ _ c.loop-rec.invariant.chunked _ c.next.ensures.steps c.in-None.is))

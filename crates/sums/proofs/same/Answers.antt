@@ -1,33 +1,23 @@
-use mathlib.Core.Path.{refl}
-use native.Mathlib.Omega.{arith}
 use borrow.Author.Rules.{rules}
 use Rattle.rules.proofs.Arrays.{struct-array}
-use Rattle.sums.proofs.Comparing.{debit-differs, credit-differs, comparing-on, comparing-end}
+use Rattle.std.proofs.lemmas.Slice.Zip.{Zip-more, either_empty_from_Zip}
+use Rattle.sums.proofs.Comparing.{comparing-start, debit-differs, credit-differs, comparing-on, comparing-end}
 use Rattle.sums.proofs.same.Goals as goal
+use Rattle.sums.proofs.same.Goals.{then-x-y-via-then-x-y, then-x-y-via-else-x-y+then-x-y-2}
 
-pub loop-i-init : goal.loop-i-init
-loop-i-init c = record { upto = omega arith; rest = refl }
+pub loop-x-init : goal.loop-x-init
+loop-x-init c = comparing-start _ _ _ _ (search (rules, struct-array)) (search (rules, struct-array)) (search rules) (search rules)
 
-pub bounds-ours-i : goal.bounds-ours-i
-bounds-ours-i c = search (rules, struct-array)
+pub returns-then-x-y : goal.returns-then-x-y
+returns-then-x-y c =
+    let e = Zip-more c.loop-x.x-iterator c.next.new.self _ _ c.in-Some.is c.next.ensures.steps in
+    elim c.then-x-y.branch [
+      | then-x-y-via-then-x-y w ↦ debit-differs _ _ _ _ c.loop-x.invariant _ _ _ _ e w.if-x-y.true
+      | then-x-y-via-else-x-y+then-x-y-2 w ↦ credit-differs _ _ _ _ c.loop-x.invariant _ _ _ _ e w.if-x-y.false w.if-x-y-2.true
+    ]
 
-pub bounds-theirs-i : goal.bounds-theirs-i
-bounds-theirs-i c = search (rules, struct-array)
-
-pub returns-then-ours-i : goal.returns-then-ours-i
-returns-then-ours-i c = let l = c in debit-differs _ _ _ (search (rules, struct-array)) (search (rules, struct-array)) l.loop-i.invariant (omega (arith, c.loop-i-test.true)) c.if-ours-i.true
-
-pub bounds-ours-i-in-loop-i : goal.bounds-ours-i-in-loop-i
-bounds-ours-i-in-loop-i c = search (rules, struct-array)
-
-pub bounds-theirs-i-in-loop-i : goal.bounds-theirs-i-in-loop-i
-bounds-theirs-i-in-loop-i c = search (rules, struct-array)
-
-pub returns-then-ours-i-2 : goal.returns-then-ours-i-2
-returns-then-ours-i-2 c = let l = c in credit-differs _ _ _ (search (rules, struct-array)) (search (rules, struct-array)) l.loop-i.invariant (omega (arith, c.loop-i-test.true)) c.if-ours-i.false c.if-ours-i-2.true
-
-pub loop-i-preserved : goal.loop-i-preserved
-loop-i-preserved c = let l = c in comparing-on _ _ _ (search (rules, struct-array)) (search (rules, struct-array)) l.loop-i.invariant (omega (arith, c.loop-i-test.true)) c.if-ours-i.false c.if-ours-i-2.false
+pub loop-x-preserved : goal.loop-x-preserved
+loop-x-preserved c = comparing-on _ _ _ _ c.loop-x.invariant _ _ _ _ (Zip-more c.loop-x.x-iterator c.next.new.self _ _ c.in-Some.is c.next.ensures.steps) c.if-x-y.false c.if-x-y-2.false
 
 pub returns : goal.returns
-returns c = comparing-end _ _ _ (search (rules, struct-array)) (search (rules, struct-array)) c.loop-i.invariant c.loop-i-test.false
+returns c = comparing-end _ _ _ _ c.loop-x.invariant (either_empty_from_Zip c.loop-x.x-iterator c.next.new.self _ c.in-None.is c.next.ensures.steps)

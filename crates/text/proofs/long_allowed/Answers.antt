@@ -11,7 +11,7 @@ returns-then-quarters_allowed c =
     let l = c.args.part.now in
     c.all_allowed.ensures ∙ sym (all_rest l (length l / 64 * 16 * 4) (omega arith) ∙ rw (sym c.quarters_allowed.ensures ∙ c.if-quarters_allowed.true))
 
-pub returns : goal.returns
-returns c =
+pub returns-else-quarters_allowed : goal.returns-else-quarters_allowed
+returns-else-quarters_allowed c =
     let l = c.args.part.now in
-    sym (all_rest l (length l / 64 * 16 * 4) (omega arith) ∙ rw (sym c.quarters_allowed.ensures ∙ c.if-quarters_allowed.false))
+    c.if-quarters_allowed.false ∙ sym (all_rest l (length l / 64 * 16 * 4) (omega arith) ∙ rw (sym c.quarters_allowed.ensures ∙ c.if-quarters_allowed.false))

@@ -8,5 +8,5 @@ returns-then-part_fits c =
     c.spelled.ensures
     ∙ sym (number-by-digits _ _ _ _ (sym c.part_fits.ensures ∙ c.if-part_fits.true))
 
-pub returns : goal.returns
-returns c = sym (number-unfit _ _ _ _ (sym c.part_fits.ensures ∙ c.if-part_fits.false))
+pub returns-else-part_fits : goal.returns-else-part_fits
+returns-else-part_fits c = c.if-part_fits.false ∙ sym (number-unfit _ _ _ _ (sym c.part_fits.ensures ∙ c.if-part_fits.false))

@@ -1,14 +1,13 @@
 -- `text::part_fits` meets its contract: the two tests by a difference say what the sum says.
-use mathlib.Core.Path.{sym}
 use native.Mathlib.Omega.{arith}
-use Rattle.text.proofs.Fits.{part-fits, part-unfit}
+use Rattle.std.proofs.lemmas.Grind.{common_steps}
+use Rattle.text.specs.Placing.{part_fits}
 use Rattle.text.proofs.part_fits.Goals as goal
 
-pub returns-then-len-at : goal.returns-then-len-at
-returns-then-len-at c = sym (part-unfit _ _ _ (omega arith))
+pub returns-then-at-len : goal.returns-then-at-len
+unfolding part_fits
+returns-then-at-len c = grind (arith, common_steps)
 
-pub returns-then-len-at-2 : goal.returns-then-len-at-2
-returns-then-len-at-2 c = sym (part-unfit _ _ _ (omega arith))
-
-pub returns : goal.returns
-returns c = sym (part-fits _ _ _ (omega arith))
+pub returns-else-at-len : goal.returns-else-at-len
+unfolding part_fits
+returns-else-at-len c = grind (arith, common_steps)

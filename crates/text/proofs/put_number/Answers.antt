@@ -12,7 +12,7 @@ returns-then-number_fits c =
     let w = number-written _ _ _ _ (sym c.number_fits.ensures ∙ c.if-number_fits.true) in
     (sym w.0, c.write_digits.ensures ∙ sym w.1)
 
-pub returns : goal.returns
-returns c =
+pub returns-else-number_fits : goal.returns-else-number_fits
+returns-else-number_fits c =
     let w = number-kept _ _ _ _ (sym c.number_fits.ensures ∙ c.if-number_fits.false) in
     (sym w.0, sym w.1)

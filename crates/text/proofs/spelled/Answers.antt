@@ -1,12 +1,13 @@
-use mathlib.Core.Path.{refl, sym, ◌∙◌}
+use Prim.Native.Nat.{◌+◌, ◌-◌}
+use mathlib.Core.Path.{◌≡◌, sym, ◌∙◌}
+use native.Mathlib.Omega.{arith}
 use Rattle.text.proofs.Numerals.{spelled-on, spelled-end}
 use Rattle.text.proofs.spelled.Goals as goal
 
-pub loop-i-init : goal.loop-i-init
-loop-i-init c = refl
-
-pub loop-i-preserved : goal.loop-i-preserved
-loop-i-preserved c = c.loop-i.invariant ∙ spelled-on _ _ c.loop-i-test.true
+pub loop-preserved : goal.loop-preserved
+loop-preserved c =
+    let e : c.args.width - c.loop.counter - 1 ≡ c.args.width - (c.loop.counter + 1) = omega arith in
+    c.loop.invariant ∙ (spelled-on _ _ (omega arith) ∙ rw e)
 
 pub returns : goal.returns
-returns c = sym (c.loop-i.invariant ∙ spelled-end _ _ c.loop-i-test.false)
+returns c = sym (c.loop.invariant ∙ spelled-end _ _ (omega arith))

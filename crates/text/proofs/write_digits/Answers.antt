@@ -1,20 +1,12 @@
-use mathlib.Core.Path.{refl, sym, ◌∙◌}
+use mathlib.Core.Path.{sym, ◌∙◌}
 use native.Mathlib.Omega.{arith}
-use lib.ListN.{length-set}
 use Rattle.text.proofs.Writing.{digits-on, digits-end}
 use Rattle.text.proofs.write_digits.Goals as goal
 
-pub loop-i-init : goal.loop-i-init
-loop-i-init c = (omega arith, refl, refl)
-
 pub loop-i-preserved : goal.loop-i-preserved
 loop-i-preserved c =
-    let v = c.loop-i.invariant in
     let p = c.requires in
-    (omega arith, simp length-set v.1, v.2 ∙ digits-on _ _ _ _ c.loop-i-test.true (omega arith))
-
-pub shape_of-room : goal.shape_of-room
-shape_of-room c = c.loop-i.invariant.1
+    c.loop-i.invariant ∙ digits-on _ _ _ _ c.loop-i-test.true (omega arith)
 
 pub returns : goal.returns
-returns c = sym (c.loop-i.invariant.2 ∙ digits-end _ _ _ _ c.loop-i-test.false)
+returns c = sym (c.loop-i.invariant ∙ digits-end _ _ _ _ c.loop-i-test.false)

@@ -7,12 +7,12 @@ pub returns-in-Refused : goal.returns-in-Refused
 returns-in-Refused c = (settled-refused _ _ _ c.judge_kept.ensures _ _ _ c.in-Refused.is, refl)
 
 pub rebalance-requires : goal.rebalance-requires
-rebalance-requires c = (c.requires.0, sym c.survey-surveyed.ensures.1 ∙ c.if-surveyed.true)
+rebalance-requires c = (c.requires.0, sym c.survey.ensures.1 ∙ c.if-survey.true)
 
-pub returns-then-surveyed : goal.returns-then-surveyed
-returns-then-surveyed c =
+pub returns-then-survey : goal.returns-then-survey
+returns-then-survey c =
     let r = c.rebalance.ensures in
-    (settled-written _ _ _ c.judge_kept.ensures c.in_default.is _ c.survey-surveyed.ensures.1 c.requires.0 c.if-surveyed.true _ r, settled-room _ _ _ _ c.requires.0 c.requires.1 r c.put_part.ensures.1)
+    (settled-written _ _ _ c.judge_kept.ensures c.in_default.is _ c.survey.ensures.1 c.requires.0 c.if-survey.true _ r, settled-room _ _ _ _ c.requires.0 c.requires.1 r c.put_part.ensures.1)
 
 pub returns : goal.returns
-returns c = (settled-unfit _ _ _ c.judge_kept.ensures c.in_default.is _ c.survey-surveyed.ensures.1 c.if-surveyed.false, refl)
+returns c = (settled-unfit _ _ _ c.judge_kept.ensures c.in_default.is _ c.survey.ensures.1 c.if-survey.false, refl)

@@ -7,6 +7,3 @@ amount_at-requires c = rw c.section_at-section.ensures (omega (arith, near-rule 
 
 pub amount_at-requires-2 : goal.amount_at-requires-2
 amount_at-requires-2 c = rw c.section_at-section.ensures (omega (arith, near-rule c.args.s))
-
-pub returns : goal.returns
-returns c = simp (c.three_fields.ensures, c.amount_at.ensures, c.amount_at-2.ensures, c.section_at-section.ensures)

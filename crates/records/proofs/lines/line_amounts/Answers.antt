@@ -2,11 +2,8 @@
 use Rattle.layout.proofs.Table.{near-rule}
 use Rattle.records.proofs.lines.line_amounts.Goals as goal
 
-pub amount_in-debit-requires : goal.amount_in-debit-requires
-amount_in-debit-requires c = (c.requires, rw c.section_at-section.ensures (near-rule c.args.s).0)
+pub amount_in-requires : goal.amount_in-requires
+amount_in-requires c = (c.requires, rw c.section_at-section.ensures (near-rule c.args.s).0)
 
-pub amount_in-credit-requires : goal.amount_in-credit-requires
-amount_in-credit-requires c = (c.requires, rw c.section_at-section.ensures (near-rule c.args.s).1.0)
-
-pub returns : goal.returns
-returns c = rw (c.amount_in-credit.ensures, c.amount_in-debit.ensures, c.section_at-section.ensures)
+pub amount_in-requires-2 : goal.amount_in-requires-2
+amount_in-requires-2 c = (c.requires, rw c.section_at-section.ensures (near-rule c.args.s).1.0)

@@ -10,7 +10,7 @@ use Rattle.sheet.proofs.slots.slot_fault.Goals as goal
 use Rattle.sheet.proofs.slots.slot_fault.Goals.{After-same_bytes}
 
 typed : (c : After-same_bytes) → c.same_bytes.result ≡ same_bytes (take 2 (drop 1 c.args.rec.now)) (type_text c.args.slot)
-typed c = c.same_bytes.ensures ∙ ap (λ (l : List ℕ). same_bytes (take 2 (drop 1 c.args.rec.now)) l) c.type_text-own.ensures
+typed c = c.same_bytes.ensures ∙ ap (λ (l : List ℕ). same_bytes (take 2 (drop 1 c.args.rec.now)) l) c.type_text.ensures
 
 pub returns-then-subtype_fits : goal.returns-then-subtype_fits
 unfolding slot_fault

@@ -15,18 +15,6 @@ has_subtype-requires c = (search rules, rw c.section_at.ensures (subtypes-small 
 pub has_subtype-requires-in-Balance : goal.has_subtype-requires-in-Balance
 has_subtype-requires-in-Balance c = (search rules, rw c.section_at-in-Balance.ensures (subtypes-small _).1)
 
-pub returns-in-Head : goal.returns-in-Head
-unfolding subtype_text same_bytes
-returns-in-Head c = rw c.in-Head.is
-
-pub returns-in-Taxpayer : goal.returns-in-Taxpayer
-unfolding subtype_text same_bytes
-returns-in-Taxpayer c = rw c.in-Taxpayer.is
-
-pub returns-in-Domicile : goal.returns-in-Domicile
-unfolding subtype_text same_bytes
-returns-in-Domicile c = rw c.in-Domicile.is
-
 pub returns-in-Line : goal.returns-in-Line
 unfolding subtype_text
 returns-in-Line c = rw c.in-Line.is (subtype-by _ c.args.rec.now _ (c.has_subtype.ensures ∙ ap (λ (x : Section). same_bytes (take 2 (drop 10 c.args.rec.now)) (digits_of 2 x.line_subtype)) c.section_at.ensures))
@@ -46,11 +34,3 @@ returns-in-Receipt c = rw c.in-Receipt.is (subtype-by _ c.args.rec.now _ c.has_s
 pub returns-in-Addressee : goal.returns-in-Addressee
 unfolding subtype_text
 returns-in-Addressee c = rw c.in-Addressee.is (subtype-by _ c.args.rec.now _ c.has_subtype-in-Addressee.ensures)
-
-pub returns-in-Tail : goal.returns-in-Tail
-unfolding subtype_text same_bytes
-returns-in-Tail c = rw c.in-Tail.is
-
-pub returns-in-Unknown : goal.returns-in-Unknown
-unfolding subtype_text same_bytes
-returns-in-Unknown c = rw c.in-Unknown.is
