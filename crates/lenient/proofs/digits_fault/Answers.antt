@@ -11,7 +11,7 @@ use Rattle.rules.specs.Checks.{bad_fields}
 use Rattle.records.proofs.FieldByField.{non-digit-near, bad-on, bad-here, bad-end}
 use Rattle.rebalance.specs.Rebalance.{kept_fields}
 use Rattle.lenient.proofs.KeptFields.{kept-listed, kept-within}
-use borrow.Enum.Refused.{opened}
+use Rattle.std.specs.Result.{is_err}
 use Rattle.lenient.proofs.digits_fault.Goals as goal
 use Rattle.lenient.proofs.digits_fault.Goals.{After-kept_count}
 
@@ -42,10 +42,10 @@ non_digit_at-requires c = non-digit-near _ _ (field-within (goal.at.non_digit_at
 pub returns-in_default : goal.returns-in_default
 returns-in_default c =
     let k = (goal.at.returns-in_default c).After-kept_count in
-    ap (Fails 7) c.non_digit_at.ensures ∙ sym (sym (all k) ∙ c.loop-field.invariant ∙ bad-here _ _ _ c.loop-field-test.true _ c.read_field-said.ensures (opened c.in_default.in_default-own.keys2))
+    ap (Fails 7) c.non_digit_at.ensures ∙ sym (sym (all k) ∙ c.loop-field.invariant ∙ bad-here _ _ _ c.loop-field-test.true _ c.read_field-said.ensures (ap is_err c.in_default.is))
 
 pub loop-field-preserved : goal.loop-field-preserved
-loop-field-preserved c = c.loop-field.invariant ∙ bad-on _ _ _ c.loop-field-test.true _ (sym c.read_field-said.ensures ∙ c.in-Number.is)
+loop-field-preserved c = c.loop-field.invariant ∙ bad-on _ _ _ c.loop-field-test.true _ (sym c.read_field-said.ensures ∙ c.in-Ok.is)
 
 pub returns : goal.returns
 returns c =

@@ -1,6 +1,7 @@
 use Prim.Native.Nat.{ℕ}
-use mathlib.Core.Path.{◌≡◌, sym, ◌∙◌}
+use mathlib.Core.Path.{◌≡◌, sym, ap, ◌∙◌}
 use native.Mathlib.Omega.{arith}
+use Rattle.std.specs.Prelude.{Err}
 use Rattle.rules.specs.State.{start_state}
 use Rattle.rules.specs.Step.{next}
 use Rattle.judge.proofs.Chunked.{Given, chunked-start, chunk-given, chunk-none}
@@ -33,14 +34,14 @@ record_fault-requires c =
     let d = t.below.deleghe-below in
     (t.sized, t.few, omega (arith, t.few))
 
-pub overflow_add-result : goal.overflow_add-result
-overflow_add-result c = omega (arith, (turn (goal.at.overflow_add-result c).After-kind_in-kind).few)
+pub overflow_add-st : goal.overflow_add-st
+overflow_add-st c = omega (arith, (turn (goal.at.overflow_add-st c).After-kind_in-kind).few)
 
-pub returns-in-Fault : goal.returns-in-Fault
-returns-in-Fault c =
-    let q = (goal.at.returns-in-Fault c).After-kind_in-kind in
+pub returns-in-Err : goal.returns-in-Err
+returns-in-Err c =
+    let q = (goal.at.returns-in-Err c).After-kind_in-kind in
     let g = given q in
-    judging-refuses _ _ _ _ q.loop-rec.invariant.judging g.more _ g.here (sym (c.record_fault.ensures ∙ fault-by _ _ _ _ _ _ c.kind_in-kind.ensures) ∙ c.in-Fault.is)
+    ap Err c.in_record.ensures ∙ judging-refuses _ _ _ _ q.loop-rec.invariant.judging g.more _ g.here (sym (c.record_fault.ensures ∙ fault-by _ _ _ _ _ _ c.kind_in-kind.ensures) ∙ c.in-Err.is)
 
 pub next_state-st-requires : goal.next_state-st-requires
 next_state-st-requires c =
