@@ -20,7 +20,12 @@ fn deliver(target: &Target, flow: &[u8]) {
 fn drop_from(target: &Target, flow: &mut [u8], numbers: &[u64]) {
     match dropping::drop_deleghe(&mut *flow, numbers) {
         Dropping::Dropped(n) => deliver(target, &flow[..n]),
-        Dropping::Refused(number, at, position) => desk::print_refusal(target.command.rt, number, at, position),
+        Dropping::Refused(number, at, position) => desk::print_refusal(
+            target.command.rt,
+            number,
+            at,
+            position,
+        ),
     }
 }
 

@@ -109,7 +109,12 @@ fn write_flow(new: &NewFile, sheet: &[u8]) {
     let mut room = [0u8; Flow::MOST_BYTES];
     match write::write(sheet, &mut room) {
         Writing::Written(n) => new.deliver(&room[..n]),
-        Writing::Refused(number, at, position) => desk::print_refusal(new.command.rt, number, at, position),
+        Writing::Refused(number, at, position) => desk::print_refusal(
+            new.command.rt,
+            number,
+            at,
+            position,
+        ),
     }
 }
 
