@@ -6,7 +6,11 @@
 
 use correct::Correction;
 use desk::Numbers;
+use layout::Flow;
 use std::fs::File;
+
+// The room takes flows that are too long by a byte, and the line end.
+const ROOM: usize = Flow::MOST_BYTES + 2;
 
 // Makes a call, and prints what comes of it.
 fn make(rt: &HostRuntime, flow: &mut [u8], expected: &[u8], call: Numbers) {
@@ -30,28 +34,17 @@ fn make(rt: &HostRuntime, flow: &mut [u8], expected: &[u8], call: Numbers) {
     }
 }
 
-// One case; false where there is none left.
-fn one_case(rt: &HostRuntime, cases: &mut File) -> bool {
-    let mut head = [0u8; 153];
-    let mut flow = [0u8; 65522];
-    let mut expected = [0u8; 65522];
-    let Some(n) = desk::next_case(rt, cases, &mut head, &mut flow) else {
-        return false;
-    };
+// One case, below whose flow stand the expected bytes; false where they are not there.
+fn one_case(rt: &HostRuntime, cases: &mut File, call: Numbers, flow: &mut [u8]) -> bool {
+    let n = flow.len();
+    let mut expected = [0u8; ROOM];
     if !desk::read_next(cases, &mut expected, n) {
         return false;
     }
-    make(rt, &mut flow[0..n], &expected[0..n], desk::numbers_of(head));
+    make(rt, flow, &expected[..n], call);
     true
 }
 
 fn main(rt: HostRuntime) {
-    let Some(mut cases) = desk::open_cases(&rt, b"calls") else {
-        return;
-    };
-    for _ in 0..desk::MOST_CASES {
-        if !one_case(&rt, &mut cases) {
-            break;
-        }
-    }
+    desk::run_cases::<ROOM, _>(&rt, b"calls", desk::CALL_HEADER, one_case);
 }

@@ -5,28 +5,22 @@
 // line end.
 #![tactic(auto)]
 
+use desk::Numbers;
 use dropping::Dropping;
 use layout::Flow;
 use std::fs::File;
 
-// The longest flow of a case: one that is too long by a record.
-const MOST_FLOW: usize = Flow::MOST_BYTES + Flow::RECORD;
+// The room takes flows that are too long by a record, and the line end.
+const ROOM: usize = Flow::MOST_BYTES + Flow::RECORD + 1;
 
 // The longest list of a case.
 const MOST_NUMBERS: usize = 600;
-
-// The length of the flow that is left.
-fn print_length(rt: &HostRuntime, length: usize) {
-    desk::print_bytes(rt, b"DROPPED ");
-    desk::print_decimal(rt, length as u64);
-    desk::print_bytes(rt, b"\n");
-}
 
 // Drops deleghe from a flow, and prints what comes of it.
 fn make(rt: &HostRuntime, flow: &mut [u8], expected: &[u8], numbers: &[u64]) {
     match dropping::drop_deleghe(&mut *flow, numbers) {
         Dropping::Dropped(length) => {
-            print_length(rt, length);
+            desk::print_counted(rt, "DROPPED", length);
             desk::print_comparison(rt, flow, expected);
             desk::print_judgement(rt, judge::judge(&flow[..length]));
         }
@@ -59,41 +53,16 @@ fn make_with(
     true
 }
 
-// One case; false where there is none left.
-fn one_case(rt: &HostRuntime, cases: &mut File) -> bool {
-    let mut head = [0u8; 153];
-    let mut flow = [0u8; MOST_FLOW + 1];
-    let mut expected = [0u8; MOST_FLOW + 1];
-    let Some(n) = desk::next_case(rt, cases, &mut head, &mut flow) else {
-        return false;
-    };
-    if !desk::read_next(cases, &mut expected, n) {
-        return false;
-    }
-    let call = desk::numbers_of(head);
-    make_with(
-        rt,
-        cases,
-        &mut flow[0..n],
-        &expected[0..n],
-        call.first as usize,
-    )
-}
-
-// The cases of one file.
-fn run_file(rt: &HostRuntime, path: &[u8]) {
-    let Some(mut cases) = desk::open_cases(rt, path) else {
-        return;
-    };
-    for _ in 0..desk::MOST_CASES {
-        if !one_case(rt, &mut cases) {
-            break;
-        }
-    }
+// One case, below whose flow stand the expected bytes; false where they are not there.
+fn one_case(rt: &HostRuntime, cases: &mut File, call: Numbers, flow: &mut [u8]) -> bool {
+    let n = flow.len();
+    let mut expected = [0u8; ROOM];
+    desk::read_next(&mut *cases, &mut expected, n)
+        && make_with(rt, cases, flow, &expected[..n], call.first as usize)
 }
 
 // The cases whose answers were written by hand, then the flows that the reference has answered.
 fn main(rt: HostRuntime) {
-    run_file(&rt, b"calls");
-    run_file(&rt, b"vectors");
+    desk::run_cases::<ROOM, _>(&rt, b"calls", desk::CALL_HEADER, one_case);
+    desk::run_cases::<ROOM, _>(&rt, b"vectors", desk::CALL_HEADER, one_case);
 }

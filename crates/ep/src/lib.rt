@@ -94,14 +94,11 @@ fn kind_of(rec: &[u8]) -> Kind
     requires { length rec.now ≡ 1900 }
     ensures { result ≡ kind_of rec.now }
 {
-    let first = rec[0];
-    if first == b'M' {
-        return Kind::RecordM;
+    match rec[0] {
+        b'M' => Kind::RecordM,
+        b'V' => Kind::RecordV,
+        _ => Kind::OtherRecord,
     }
-    if first == b'V' {
-        return Kind::RecordV;
-    }
-    Kind::OtherRecord
 }
 
 // The total of an M.
@@ -160,15 +157,12 @@ fn with_accounts(tally: Tally, accounts: Accounts) -> Tally
     ensures { result ≡ with_accounts tally accounts }
 {
     let more = added(accounts);
-    let total = tally.total;
     Tally {
         seen: tally.seen + 1,
-        count: tally.count,
         sum: tally.sum + more,
-        at: tally.at,
         followed: true,
         own: tally.own + more,
-        total,
+        ..tally
     }
 }
 
@@ -181,11 +175,11 @@ fn with_payment(tally: Tally, total: Total) -> Tally
     Tally {
         seen: here,
         count: tally.count + 1,
-        sum: tally.sum,
         at: here,
         followed: false,
         own: 0,
         total,
+        ..tally
     }
 }
 
@@ -194,15 +188,9 @@ fn with_other(tally: Tally) -> Tally
     requires { tally.seen < 10000 }
     ensures { result ≡ with_other tally }
 {
-    let total = tally.total;
     Tally {
         seen: tally.seen + 1,
-        count: tally.count,
-        sum: tally.sum,
-        at: tally.at,
-        followed: tally.followed,
-        own: tally.own,
-        total,
+        ..tally
     }
 }
 
@@ -288,13 +276,7 @@ fn ended(tally: Tally) -> EpAnswer
 fn size_right(len: usize) -> bool
     ensures { result ≡ size_right len }
 {
-    if len == 0 {
-        return false;
-    }
-    if MOST_BYTES < len {
-        return false;
-    }
-    len % RECORD == 0
+    len != 0 && len <= MOST_BYTES && len % RECORD == 0
 }
 
 // Judges the records of the form.
@@ -306,8 +288,7 @@ pub fn ep_judge(records: &[u8]) -> EpAnswer
     }
     let count = records.len() / RECORD;
     let mut tally = no_tally();
-    let mut i: usize = 0;
-    while i < count {
+    for i in 0..count {
         let at = i * RECORD;
         let done = step_by(tally, &records[at..at + RECORD]);
         let outcome = done.outcome;
@@ -315,7 +296,6 @@ pub fn ep_judge(records: &[u8]) -> EpAnswer
             return EpAnswer::Refused(number, record, 0);
         }
         tally = done.tally;
-        i += 1;
     }
     ended(tally)
 }

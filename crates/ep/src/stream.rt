@@ -11,11 +11,10 @@ use ep_accounts::RECORD;
 pub fn start() -> Course
     ensures { result ≡ start_course }
 {
-    let tally = no_tally();
     Course {
         fits: true,
         records: 0,
-        tally,
+        tally: no_tally(),
         outcome: Outcome::Pass,
     }
 }
@@ -24,13 +23,9 @@ pub fn start() -> Course
 fn unfit(course: Course) -> Course
     ensures { result ≡ unfit course }
 {
-    let tally = course.tally;
-    let outcome = course.outcome;
     Course {
         fits: false,
-        records: course.records,
-        tally,
-        outcome,
+        ..course
     }
 }
 
@@ -51,13 +46,11 @@ fn counted(course: Course, rec: &[u8]) -> Course
         };
     }
     let done = step_by(tally, rec);
-    let tally = done.tally;
-    let outcome = done.outcome;
     Course {
         fits: true,
         records,
-        tally,
-        outcome,
+        tally: done.tally,
+        outcome: done.outcome,
     }
 }
 
@@ -66,16 +59,11 @@ pub fn take(course: Course, piece: &[u8]) -> Course
     requires { Sound course }
     ensures { result ≡ took course piece.now }
 {
-    if !course.fits {
-        return unfit(course);
+    if course.fits && piece.len() == RECORD && course.records < MOST_RECORDS {
+        counted(course, piece)
+    } else {
+        unfit(course)
     }
-    if piece.len() != RECORD {
-        return unfit(course);
-    }
-    if course.records < MOST_RECORDS {
-        return counted(course, piece);
-    }
-    unfit(course)
 }
 
 // The answer where no piece is left.
@@ -93,6 +81,5 @@ pub fn answered(course: Course) -> EpAnswer
     if let Outcome::Fault(number, at) = outcome {
         return EpAnswer::Refused(number, at, 0);
     }
-    let tally = course.tally;
-    ended(tally)
+    ended(course.tally)
 }

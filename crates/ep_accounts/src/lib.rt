@@ -52,14 +52,12 @@ fn debits_in(rec: &[u8]) -> Accounts
     ensures { result ≡ debits_in rec.now }
 {
     let mut sum: u64 = 0;
-    let mut k: usize = 0;
-    while k < ROWS {
+    for k in 0..ROWS {
         let said = debit_of(rec, k);
         let Digits::Number(debit) = said else {
             return Accounts::NonDigit;
         };
         sum += debit;
-        k += 1;
     }
     Accounts::Sum(sum)
 }

@@ -2,10 +2,15 @@
 // A case is a line of 48 bytes, its name in 40 and its length in six digits, then that many bytes, then a line end.
 #![tactic(auto)]
 
+use desk::Numbers;
 use ep::EpAnswer;
 use std::fs::File;
 
+// The room takes 100,000 bytes, which no case exceeds, and the line end.
+const ROOM: usize = 100_001;
+
 // An answer, as it is printed.
+// Kept: f24_ep has the same lines, and one function for both were no plainer: desk rests on no crate of the form, and each program on desk would list four more.
 fn print_answer(rt: &HostRuntime, answer: EpAnswer) {
     match answer {
         EpAnswer::Accepted(count, sum) => desk::print_payments(rt, count, sum),
@@ -13,31 +18,14 @@ fn print_answer(rt: &HostRuntime, answer: EpAnswer) {
     }
 }
 
-// One case; false where there is none left. The room takes 100,000 bytes, which no case exceeds, and the line end.
-fn one_case(rt: &HostRuntime, cases: &mut File) -> bool {
-    let mut head = [0u8; 48];
-    let mut room = [0u8; 100001];
-    let Some(n) = desk::next_case(rt, cases, &mut head, &mut room) else {
-        return false;
-    };
-    print_answer(rt, ep::ep_judge(&room[..n]));
+// Judges the records of a case.
+fn one_case(rt: &HostRuntime, _cases: &mut File, _call: Numbers, records: &mut [u8]) -> bool {
+    print_answer(rt, ep::ep_judge(records));
     true
-}
-
-// The cases of one file.
-fn judge_all(rt: &HostRuntime, path: &[u8]) {
-    let Some(mut cases) = desk::open_cases(rt, path) else {
-        return;
-    };
-    for _ in 0..desk::MOST_CASES {
-        if !one_case(rt, &mut cases) {
-            break;
-        }
-    }
 }
 
 // The cases whose answers were written by hand, then the records that the reference has answered.
 fn main(rt: HostRuntime) {
-    judge_all(&rt, b"records");
-    judge_all(&rt, b"vectors");
+    desk::run_cases::<ROOM, _>(&rt, b"records", desk::FLOW_HEADER, one_case);
+    desk::run_cases::<ROOM, _>(&rt, b"vectors", desk::FLOW_HEADER, one_case);
 }

@@ -63,16 +63,14 @@ fn closing_of(st: State) -> Judgement
     requires { (st.seen < 1000) × (st.others ≤ st.seen) }
     ensures { result ≡ closing st }
 {
-    let stage = st.stage;
-    let money = st.money;
-    let sums = money.flow;
-    if stage.phase == Stage::TAIL {
+    if st.stage.phase == Stage::TAIL {
+        let sums = st.money.flow;
         return Judgement {
             verdict: Ok(()),
             summary: Summary {
                 deleghe: st.deleghe,
                 records: st.seen,
-                total: money.total,
+                total: st.money.total,
                 lines: (st.seen - st.others) as u64,
                 sums,
             },
@@ -85,10 +83,7 @@ fn closing_of(st: State) -> Judgement
 pub fn nth_record(flow: &[u8], k: usize) -> &[u8]
     ensures { LiesAt flow.entry (record_at flow.now k) (record_start flow.now k) result }
 {
-    if k == 0 {
-        return &flow[0..0];
-    }
-    if flow.len() / Flow::RECORD < k {
+    if k == 0 || flow.len() / Flow::RECORD < k {
         return &flow[0..0];
     }
     let end = k * Flow::RECORD;
@@ -128,15 +123,11 @@ fn misread(rec: &[u8], kind: Kind, k: usize) -> Judgement
     ensures { result ≡ after (bad_fields (fields_of kind) rec.now) k (refused_with 8 (k + 1) 4) }
 {
     let fields = layout::fields_of(kind);
-    let list = fields.fields;
-    let mut f: usize = 0;
-    while f < fields.count {
-        let field = list[f];
+    for &field in &fields.fields[..fields.count] {
         let said = records::read_field(rec, field);
         let Ok(_) = said else {
             return refused(7, k + 1, records::non_digit_at(field, said));
         };
-        f += 1;
     }
     refused(8, k + 1, 4)
 }
@@ -219,10 +210,7 @@ pub fn judge(flow: &[u8]) -> Judgement
     if Flow::MOST_BYTES < n {
         return refused(1, 0, 0);
     }
-    if n == 0 {
-        return refused(2, 0, 0);
-    }
-    if n % Flow::RECORD != 0 {
+    if n == 0 || n % Flow::RECORD != 0 {
         return refused(2, 0, 0);
     }
     let mut none = [0u64; 0];

@@ -24,6 +24,7 @@ pub struct Keeping {
 }
 
 // The answer to a correction, and the record that is handed back.
+// Kept: three types of one shape and not one that is generic, since `correction_kept`, `mending_kept` and `dropping_kept` name them, and definitions stay.
 #[derive(Clone, Copy)]
 pub struct CorrectionKept {
     pub answer: Correction,
@@ -49,11 +50,11 @@ pub fn keep(flow: &[u8]) -> Keeping
     ensures { result ≡ keeping flow.now }
 {
     let judgement = judge::judge(flow);
+    // Kept: tried without the variable, and a literal that takes an array straight from a field gets no proof.
+    let sums = judgement.summary.sums;
     Keeping {
         verdict: judgement.verdict,
-        kept: KeptSums {
-            sums: judgement.summary.sums,
-        },
+        kept: KeptSums { sums },
     }
 }
 

@@ -9,9 +9,8 @@
 // behind it. Where the first of the eleven is 0 the step is lent the record that was handed back last, else the ten behind it.
 #![tactic(auto)]
 
-ghost use Rattle.std.specs.Prelude.{◌≡◌, ◌+◌, ◌≤◌, length};
+ghost use Rattle.std.specs.Prelude.{◌+◌, ◌≤◌, length, IfSome};
 
-use amounts::Sums;
 use correct::Correction;
 use desk::Numbers;
 use dropping::Dropping;
@@ -23,8 +22,10 @@ use std::fs::File;
 use sums::KeptSums;
 use text::Digits;
 
-// The longest flow of a case: one that is too long by a record.
+// The longest flow of a case: one that is too long by a record. The room has a line end more.
 const MOST_FLOW: usize = Flow::MOST_BYTES + Flow::RECORD;
+
+const ROOM: usize = MOST_FLOW + 1;
 
 // The most steps of a case.
 const MOST_STEPS: usize = 40;
@@ -38,36 +39,34 @@ const MOST_NUMBERS: usize = 600;
 // The most bytes below the line of a step: the expected bytes, the eleven numbers and those of a dropping, with a line end each.
 const MOST_REST: usize = MOST_FLOW + 234 + 21 * MOST_NUMBERS;
 
-// What a step leaves: whether it was read, whether its call is no refusal, the length of the flow and the record. A step that could not be read leaves nothing to go on
-// from.
+// What a step does.
+#[derive(Clone, Copy)]
+enum Kind {
+    Correction,
+    Rebalancing,
+    Dropping,
+}
+
+// A step, as its line says it: what it does, and the numbers of its call.
+#[derive(Clone, Copy)]
+struct Step {
+    kind: Kind,
+    call: Numbers,
+}
+
+// What a step leaves: whether its call is no refusal, the length of the flow and the record. A step that could not be read leaves nothing to go on from.
 #[derive(Clone, Copy)]
 struct Left {
-    read: bool,
     done: bool,
     length: usize,
     kept: KeptSums,
 }
 
-// A number, after a space.
-fn print_number(rt: &HostRuntime, n: u64) {
-    desk::print_bytes(rt, b" ");
-    desk::print_decimal(rt, n);
-}
-
-// The two sums of a section.
-fn print_pair(rt: &HostRuntime, pair: Sums) {
-    print_number(rt, pair.debit);
-    print_number(rt, pair.credit);
-}
-
 // The ten sums of a record.
 fn print_sums(rt: &HostRuntime, kept: KeptSums) {
     desk::print_bytes(rt, b"SUMS");
-    let sums = kept.sums;
-    let mut i: usize = 0;
-    while i < 5 {
-        print_pair(rt, sums[i]);
-        i += 1;
+    for pair in kept.sums {
+        let _ = print!(rt; " {} {}", pair.debit, pair.credit);
     }
     desk::print_bytes(rt, b"\n");
 }
@@ -78,25 +77,6 @@ fn print_keeping(rt: &HostRuntime, made: Keeping) {
     match verdict {
         Verdict::Accepted => print_sums(rt, made.kept),
         Verdict::Refused(number, at, position) => desk::print_refusal(rt, number, at, position),
-    }
-}
-
-// An answer that has a number.
-fn print_answer(rt: &HostRuntime, word: &[u8], n: usize) {
-    desk::print_bytes(rt, word);
-    print_number(rt, n as u64);
-    desk::print_bytes(rt, b"\n");
-}
-
-// A step that could not be read.
-fn unread(kept: KeptSums) -> Left
-    ensures { result.length ≡ 0 }
-{
-    Left {
-        read: false,
-        done: false,
-        length: 0,
-        kept,
     }
 }
 
@@ -128,13 +108,10 @@ fn correct_line(rt: &HostRuntime, flow: &mut [u8], call: Numbers, kept: KeptSums
         call.fifth,
         kept,
     );
-    let answer = made.answer;
-    let handed = made.kept;
     Left {
-        read: true,
-        done: print_correction(rt, answer),
+        done: print_correction(rt, made.answer),
         length: n,
-        kept: handed,
+        kept: made.kept,
     }
 }
 
@@ -142,7 +119,7 @@ fn correct_line(rt: &HostRuntime, flow: &mut [u8], call: Numbers, kept: KeptSums
 fn print_mending(rt: &HostRuntime, answer: Mending, list: &[u64]) -> bool {
     match answer {
         Mending::Mended(count) => {
-            print_answer(rt, b"REBALANCED", count);
+            desk::print_counted(rt, "REBALANCED", count);
             desk::print_changes(rt, list, count);
             true
         }
@@ -159,26 +136,28 @@ fn rebalance_flow(rt: &HostRuntime, flow: &mut [u8], list: &mut [u64], kept: Kep
 {
     let n = flow.len();
     let made = kept::rebalance_kept(flow, &mut *list, kept);
-    let answer = made.answer;
-    let handed = made.kept;
     Left {
-        read: true,
-        done: print_mending(rt, answer, list),
+        done: print_mending(rt, made.answer, list),
         length: n,
-        kept: handed,
+        kept: made.kept,
     }
 }
 
 // Rebalances a flow with a list of so many numbers, if a list can be so long.
-fn rebalance_with(rt: &HostRuntime, flow: &mut [u8], size: usize, kept: KeptSums) -> Left
-    ensures { result.length ≤ length flow.old }
+fn rebalance_with(
+    rt: &HostRuntime,
+    flow: &mut [u8],
+    size: usize,
+    kept: KeptSums,
+) -> Option<Left>
+    ensures { IfSome result (λ left. left.length ≤ length flow.old) }
 {
     if MOST_LIST < size {
-        return unread(kept);
+        return None;
     }
     let mut list = [0u64; MOST_LIST];
     desk::mark(&mut list);
-    rebalance_flow(rt, flow, &mut list[0..size], kept)
+    Some(rebalance_flow(rt, flow, &mut list[..size], kept))
 }
 
 // Drops deleghe from a flow, and prints the answer.
@@ -187,45 +166,52 @@ fn drop_deleghe(rt: &HostRuntime, flow: &mut [u8], numbers: &[u64], kept: KeptSu
 {
     let n = flow.len();
     let made = kept::drop_kept(flow, numbers, kept);
-    let answer = made.answer;
-    let handed = made.kept;
-    match answer {
+    match made.answer {
         Dropping::Dropped(length) => {
-            print_answer(rt, b"DROPPED", length);
+            desk::print_counted(rt, "DROPPED", length);
             Left {
-                read: true,
                 done: true,
                 length,
-                kept: handed,
+                kept: made.kept,
             }
         }
         Dropping::Refused(number, at, position) => {
             desk::print_refusal(rt, number, at, position);
             Left {
-                read: true,
                 done: false,
                 length: n,
-                kept: handed,
+                kept: made.kept,
             }
         }
     }
 }
 
 // Drops so many of the deleghe that a text lists, if a list can have so many.
-fn drop_listed(rt: &HostRuntime, flow: &mut [u8], text: &[u8], count: usize, kept: KeptSums) -> Left
-    ensures { result.length ≤ length flow.old }
+fn drop_listed(
+    rt: &HostRuntime,
+    flow: &mut [u8],
+    text: &[u8],
+    count: usize,
+    kept: KeptSums,
+) -> Option<Left>
+    ensures { IfSome result (λ left. left.length ≤ length flow.old) }
 {
     if MOST_NUMBERS < count {
-        return unread(kept);
+        return None;
     }
     let mut numbers = [0u64; MOST_NUMBERS];
     desk::put_numbers(&mut numbers, text);
-    drop_deleghe(rt, flow, &numbers[0..count], kept)
+    Some(drop_deleghe(rt, flow, &numbers[..count], kept))
 }
 
-// Whether the line of a step begins with this word, in ten bytes.
-fn begins(head: [u8; 153], word: &[u8]) -> bool {
-    amounts::same_bytes(&head[0..10], word)
+// What the word at the start of the line of a step says, in ten bytes.
+fn kind_of(head: [u8; 153]) -> Option<Kind> {
+    match &head[..10] {
+        b"correct   " => Some(Kind::Correction),
+        b"rebalance " => Some(Kind::Rebalancing),
+        b"drop      " => Some(Kind::Dropping),
+        _ => None,
+    }
 }
 
 // Whether the line of a step says this length.
@@ -237,29 +223,28 @@ fn says_length(head: [u8; 153], n: usize) -> bool {
     }
 }
 
-// Reads the line of a step on a flow of so many bytes; one without a word where it is not there or says another length.
-fn read_head(cases: &mut File, n: usize) -> [u8; 153] {
+// Reads the line of a step on a flow of so many bytes; none where it is not there, has no word of a step or says another length.
+fn read_line(cases: &mut File, n: usize) -> Option<Step> {
     let mut head = [0u8; 153];
-    if desk::read_next(cases, &mut head, 152) {
-        if says_length(head, n) {
-            return head;
-        }
+    if !desk::read_next(cases, &mut head, 152) || !says_length(head, n) {
+        return None;
     }
-    [0u8; 153]
+    let kind = kind_of(head)?;
+    Some(Step {
+        kind,
+        call: desk::numbers_of(head),
+    })
 }
 
 // How many bytes the numbers of a dropping take; they are none in other steps.
-fn numbers_size(head: [u8; 153]) -> usize
+fn numbers_size(step: Step) -> usize
     ensures { result ≤ 12600 }
 {
-    let call = desk::numbers_of(head);
-    let count = call.first as usize;
-    if begins(head, b"drop      ") {
-        if count <= MOST_NUMBERS {
-            return 21 * count;
-        }
+    let count = step.call.first as usize;
+    match step.kind {
+        Kind::Dropping if count <= MOST_NUMBERS => 21 * count,
+        _ => 0,
     }
-    0
 }
 
 // The record that a step is lent: the one that was handed back last, or the stored one.
@@ -269,65 +254,76 @@ fn lent_record(text: &[u8], last: KeptSums) -> KeptSums {
     if numbers[0] == 0 {
         return last;
     }
-    let sums = state::sums_at(&numbers, 1);
-    KeptSums { sums }
+    KeptSums {
+        sums: state::sums_at(&numbers, 1),
+    }
 }
 
-// Makes the step that a line and the numbers below it say.
-fn make(rt: &HostRuntime, head: [u8; 153], flow: &mut [u8], text: &[u8], last: KeptSums) -> Left
+// Makes a step with the numbers that stand below its line.
+fn make(
+    rt: &HostRuntime,
+    step: Step,
+    flow: &mut [u8],
+    text: &[u8],
+    last: KeptSums,
+) -> Option<Left>
     requires { 232 ≤ length text.now }
-    ensures { result.length ≤ length flow.old }
+    ensures { IfSome result (λ left. left.length ≤ length flow.old) }
 {
     let kept = lent_record(text, last);
-    let call = desk::numbers_of(head);
-    if begins(head, b"correct   ") {
-        return correct_line(rt, flow, call, kept);
+    let call = step.call;
+    match step.kind {
+        Kind::Correction => Some(correct_line(rt, flow, call, kept)),
+        Kind::Rebalancing => rebalance_with(rt, flow, call.first as usize, kept),
+        Kind::Dropping => drop_listed(rt, flow, &text[232..], call.first as usize, kept),
     }
-    if begins(head, b"rebalance ") {
-        return rebalance_with(rt, flow, call.first as usize, kept);
-    }
-    if begins(head, b"drop      ") {
-        return drop_listed(rt, flow, &text[232..], call.first as usize, kept);
-    }
-    unread(kept)
 }
 
 // What a step leaves: the record, whether the lent flow is as expected and, where the step is no refusal, the judgement of the flow as it is then.
 fn print_left(rt: &HostRuntime, flow: &[u8], expected: &[u8], left: Left)
     requires { left.length ≤ length flow.now }
 {
-    if left.read {
-        print_sums(rt, left.kept);
-        desk::print_comparison(rt, flow, expected);
-        if left.done {
-            desk::print_judgement(rt, judge::judge(&flow[..left.length]));
-        }
+    print_sums(rt, left.kept);
+    desk::print_comparison(rt, flow, expected);
+    if left.done {
+        desk::print_judgement(rt, judge::judge(&flow[..left.length]));
     }
 }
 
 // Makes a step with what stands below its line, and prints what it leaves.
-fn step_on(rt: &HostRuntime, flow: &mut [u8], head: [u8; 153], rest: &[u8], last: KeptSums) -> Left
+fn step_on(
+    rt: &HostRuntime,
+    flow: &mut [u8],
+    step: Step,
+    rest: &[u8],
+    last: KeptSums,
+) -> Option<Left>
     requires { length flow.old + 233 ≤ length rest.now }
-    ensures { result.length ≤ length flow.old }
+    ensures { IfSome result (λ left. left.length ≤ length flow.old) }
 {
     let n = flow.len();
-    let left = make(rt, head, &mut *flow, &rest[n + 1..], last);
+    let left = make(rt, step, &mut *flow, &rest[n + 1..], last)?;
     print_left(rt, flow, &rest[..n], left);
-    left
+    Some(left)
 }
 
 // One step on a flow, after one that handed back a record.
-fn one_step(rt: &HostRuntime, cases: &mut File, flow: &mut [u8], last: KeptSums) -> Left
-    ensures { result.length ≤ length flow.old }
+fn one_step(
+    rt: &HostRuntime,
+    cases: &mut File,
+    flow: &mut [u8],
+    last: KeptSums,
+) -> Option<Left>
+    ensures { IfSome result (λ left. left.length ≤ length flow.old) }
 {
     let n = flow.len();
-    let head = read_head(cases, n);
-    let size = n + 233 + numbers_size(head);
+    let step = read_line(&mut *cases, n)?;
+    let size = n + 233 + numbers_size(step);
     let mut rest = [0u8; MOST_REST];
     if !desk::read_next(cases, &mut rest, size) {
-        return unread(last);
+        return None;
     }
-    step_on(rt, flow, head, &rest, last)
+    step_on(rt, flow, step, &rest, last)
 }
 
 // The steps of a case, each on the flow and with the record that the one before it left; false where one of them is not there.
@@ -341,10 +337,9 @@ fn run_steps(
     let mut length = flow.len();
     let mut kept = made;
     for _ in 0..count {
-        let left = one_step(rt, &mut *cases, &mut flow[..length], kept);
-        if !left.read {
+        let Some(left) = one_step(rt, &mut *cases, &mut flow[..length], kept) else {
             return false;
-        }
+        };
         length = left.length;
         kept = left.kept;
     }
@@ -352,7 +347,8 @@ fn run_steps(
 }
 
 // Makes the record of a flow, and so many steps, if a case can have so many.
-fn run_case(rt: &HostRuntime, cases: &mut File, flow: &mut [u8], count: usize) -> bool {
+fn one_case(rt: &HostRuntime, cases: &mut File, call: Numbers, flow: &mut [u8]) -> bool {
+    let count = call.first as usize;
     if MOST_STEPS < count {
         return false;
     }
@@ -361,31 +357,8 @@ fn run_case(rt: &HostRuntime, cases: &mut File, flow: &mut [u8], count: usize) -
     run_steps(rt, cases, flow, count, made.kept)
 }
 
-// One case; false where there is none left.
-fn one_case(rt: &HostRuntime, cases: &mut File) -> bool {
-    let mut head = [0u8; 153];
-    let mut flow = [0u8; MOST_FLOW + 1];
-    let Some(n) = desk::next_case(rt, cases, &mut head, &mut flow) else {
-        return false;
-    };
-    let call = desk::numbers_of(head);
-    run_case(rt, cases, &mut flow[0..n], call.first as usize)
-}
-
-// The cases of one file.
-fn run_file(rt: &HostRuntime, path: &[u8]) {
-    let Some(mut cases) = desk::open_cases(rt, path) else {
-        return;
-    };
-    for _ in 0..desk::MOST_CASES {
-        if !one_case(rt, &mut cases) {
-            break;
-        }
-    }
-}
-
 // The cases whose answers were written by hand, then those that the reference has answered.
 fn main(rt: HostRuntime) {
-    run_file(&rt, b"calls");
-    run_file(&rt, b"vectors");
+    desk::run_cases::<ROOM, _>(&rt, b"calls", desk::CALL_HEADER, one_case);
+    desk::run_cases::<ROOM, _>(&rt, b"vectors", desk::CALL_HEADER, one_case);
 }

@@ -16,19 +16,6 @@ use Rattle.layout.proofs.InOrder.{InOrder, order-front, fields-in-order}
 use Rattle.rules.specs.Checks.{number_fault}
 use Rattle.rebalance.specs.Rebalance.{kept_fields}
 
--- There are at most four, as many as the code hands out.
-pub kept-four : (k : Kind) → length (kept_fields k) ≤ 4
-kept-four Head = lit≤ tt
-kept-four Taxpayer = lit≤ tt
-kept-four Domicile = lit≤ tt
-kept-four (Line s) = lit≤ tt
-kept-four (Balance s) = lit≤ tt
-kept-four Payment = lit≤ tt
-kept-four Receipt = lit≤ tt
-kept-four Addressee = lit≤ tt
-kept-four Tail = lit≤ tt
-kept-four Unknown = lit≤ tt
-
 -- There are no more than numeric fields.
 kept-short : (k : Kind) → length (kept_fields k) ≤ length (fields_of k)
 kept-short Head = lit≤ tt

@@ -4,31 +4,30 @@
 // the length is that of the flow. Below it stand the flow, a line end, as many expected bytes, and a line end.
 #![tactic(auto)]
 
+use desk::Numbers;
 use layout::Flow;
 use mend::Mending;
 use std::fs::File;
+
+// The room takes flows that are too long by a byte, and the line end.
+const ROOM: usize = Flow::MOST_BYTES + 2;
 
 // The longest list of a case.
 const MOST_LIST: usize = 5_000;
 
 // Whether every number of a list is as it was marked, from one of them on.
 fn is_marked(list: &[u64], from: usize) -> bool {
-    let mut i = from;
-    while i < list.len() {
-        if list[i] != desk::FIRST_MARK + i as u64 {
+    for (i, n) in list.iter().enumerate() {
+        if from <= i && *n != desk::FIRST_MARK + i as u64 {
             return false;
         }
-        i += 1;
     }
     true
 }
 
 // Whether the numbers behind so many pairs are as they came. A list that has not so many pairs is none that came back right.
 fn is_kept(list: &[u64], count: usize) -> bool {
-    if list.len() / 2 < count {
-        return false;
-    }
-    is_marked(list, 2 * count)
+    count <= list.len() / 2 && is_marked(list, 2 * count)
 }
 
 // Prints whether the numbers behind so many pairs are as they came.
@@ -40,18 +39,11 @@ fn print_kept(rt: &HostRuntime, list: &[u64], count: usize) {
     }
 }
 
-// The number of fields that a rebalancing changed.
-fn print_count(rt: &HostRuntime, count: usize) {
-    desk::print_bytes(rt, b"REBALANCED ");
-    desk::print_decimal(rt, count as u64);
-    desk::print_bytes(rt, b"\n");
-}
-
 // Rebalances a flow, and prints what comes of it.
 fn make(rt: &HostRuntime, flow: &mut [u8], expected: &[u8], list: &mut [u64]) {
     match mend::mend(&mut *flow, &mut *list) {
         Mending::Mended(count) => {
-            print_count(rt, count);
+            desk::print_counted(rt, "REBALANCED", count);
             desk::print_changes(rt, list, count);
             print_kept(rt, list, count);
             desk::print_comparison(rt, flow, expected);
@@ -76,35 +68,16 @@ fn make_with(rt: &HostRuntime, flow: &mut [u8], expected: &[u8], size: usize) ->
     true
 }
 
-// One case; false where there is none left.
-fn one_case(rt: &HostRuntime, cases: &mut File) -> bool {
-    let mut head = [0u8; 153];
-    let mut flow = [0u8; Flow::MOST_BYTES + 2];
-    let mut expected = [0u8; Flow::MOST_BYTES + 2];
-    let Some(n) = desk::next_case(rt, cases, &mut head, &mut flow) else {
-        return false;
-    };
-    if !desk::read_next(cases, &mut expected, n) {
-        return false;
-    }
-    let call = desk::numbers_of(head);
-    make_with(rt, &mut flow[0..n], &expected[0..n], call.first as usize)
-}
-
-// The cases of one file.
-fn run_file(rt: &HostRuntime, path: &[u8]) {
-    let Some(mut cases) = desk::open_cases(rt, path) else {
-        return;
-    };
-    for _ in 0..desk::MOST_CASES {
-        if !one_case(rt, &mut cases) {
-            break;
-        }
-    }
+// One case, below whose flow stand the expected bytes; false where they are not there.
+fn one_case(rt: &HostRuntime, cases: &mut File, call: Numbers, flow: &mut [u8]) -> bool {
+    let n = flow.len();
+    let mut expected = [0u8; ROOM];
+    desk::read_next(cases, &mut expected, n)
+        && make_with(rt, flow, &expected[..n], call.first as usize)
 }
 
 // The cases whose answers were written by hand, then the flows that the reference has answered.
 fn main(rt: HostRuntime) {
-    run_file(&rt, b"calls");
-    run_file(&rt, b"vectors");
+    desk::run_cases::<ROOM, _>(&rt, b"calls", desk::CALL_HEADER, one_case);
+    desk::run_cases::<ROOM, _>(&rt, b"vectors", desk::CALL_HEADER, one_case);
 }

@@ -5,15 +5,16 @@
 #![tactic(auto)]
 
 use desk::Numbers;
+use layout::Flow;
 use std::fs::File;
+
+// The room takes flows that are too long by a byte, and the line end.
+const ROOM: usize = Flow::MOST_BYTES + 2;
 
 // Numbers, each after a space, and the end of their line.
 fn print_numbers(rt: &HostRuntime, numbers: &[u64]) {
-    let mut i: usize = 0;
-    while i < numbers.len() {
-        desk::print_bytes(rt, b" ");
-        desk::print_decimal(rt, numbers[i]);
-        i += 1;
+    for n in numbers {
+        let _ = print!(rt; " {n}");
     }
     desk::print_bytes(rt, b"\n");
 }
@@ -21,11 +22,10 @@ fn print_numbers(rt: &HostRuntime, numbers: &[u64]) {
 // Prints what a call has returned, and the numbers that it has written: one where the judgement has not ended and for a foreign state, 15 with acceptance, three with
 // a refusal.
 fn print_answer(rt: &HostRuntime, returned: u64, answer: [u64; 15]) {
-    desk::print_decimal(rt, returned);
+    let _ = print!(rt; "{returned}");
     match returned {
         0 => print_numbers(rt, &answer),
-        101 => print_numbers(rt, &answer[0..1]),
-        102 => print_numbers(rt, &answer[0..1]),
+        101 | 102 => print_numbers(rt, &answer[0..1]),
         _ => print_numbers(rt, &answer[0..3]),
     }
 }
@@ -39,46 +39,33 @@ fn call(rt: &HostRuntime, flow: &[u8], portion: u64, state: &mut [u64]) {
 
 // Makes five calls from a state, and prints the state after them.
 fn make(rt: &HostRuntime, flow: &[u8], portions: Numbers, state: &mut [u64]) {
-    call(rt, flow, portions.first, &mut *state);
-    call(rt, flow, portions.second, &mut *state);
-    call(rt, flow, portions.third, &mut *state);
-    call(rt, flow, portions.fourth, &mut *state);
-    call(rt, flow, portions.fifth, &mut *state);
+    for portion in [
+        portions.first,
+        portions.second,
+        portions.third,
+        portions.fourth,
+        portions.fifth,
+    ] {
+        call(rt, flow, portion, &mut *state);
+    }
     desk::print_bytes(rt, b"STATE");
     print_numbers(rt, state);
 }
 
-// One case; false where there is none left.
-fn one_case(rt: &HostRuntime, cases: &mut File) -> bool {
-    let mut head = [0u8; 153];
-    let mut flow = [0u8; 65522];
+// One case, below whose flow stands the state; false where it is not there.
+fn one_case(rt: &HostRuntime, cases: &mut File, portions: Numbers, flow: &mut [u8]) -> bool {
     let mut text = [0u8; 1113];
-    let Some(n) = desk::next_case(rt, cases, &mut head, &mut flow) else {
-        return false;
-    };
     if !desk::read_next(cases, &mut text, 1112) {
         return false;
     }
     let mut state = [0u64; 53];
     desk::put_numbers(&mut state, &text);
-    make(rt, &flow[0..n], desk::numbers_of(head), &mut state);
+    make(rt, flow, portions, &mut state);
     true
-}
-
-// The cases of one file.
-fn make_all(rt: &HostRuntime, path: &[u8]) {
-    let Some(mut cases) = desk::open_cases(rt, path) else {
-        return;
-    };
-    for _ in 0..desk::MOST_CASES {
-        if !one_case(rt, &mut cases) {
-            break;
-        }
-    }
 }
 
 // The cases that were written by hand, then those that the reference has answered.
 fn main(rt: HostRuntime) {
-    make_all(&rt, b"calls");
-    make_all(&rt, b"vectors");
+    desk::run_cases::<ROOM, _>(&rt, b"calls", desk::CALL_HEADER, one_case);
+    desk::run_cases::<ROOM, _>(&rt, b"vectors", desk::CALL_HEADER, one_case);
 }

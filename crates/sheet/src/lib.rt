@@ -67,13 +67,21 @@ fn put_record(flow: &mut [u8], count: usize, rec: &[u8])
     }
 }
 
+// What a walk reads: a sheet, and the name in its head, which has twenty characters.
+#[derive(Clone, Copy)]
+struct Source<'a> {
+    sheet: &'a [u8],
+    name: &'a [u8],
+    ghost named: { length name.now ≡ 20 },
+}
+
 // One more record in the flow, in a slot of delega d. The spot's bytes have been read.
-fn enter(flow: &mut [u8], name: &[u8], spot: Spot, slot: Kind, d: u64, keyed: &[u8]) -> Spot
-    requires flow_len { (length flow.old ≡ 65520) × (length name.now ≡ 20) × (length keyed.now ≡ 120) }
+fn enter(source: Source, flow: &mut [u8], spot: Spot, slot: Kind, d: u64, keyed: &[u8]) -> Spot
+    requires flow_len { (length flow.old ≡ 65520) × (length keyed.now ≡ 120) }
     requires d_bound { (d < 10_000_000) × (spot.count < spot.at) }
-    ensures { Enters name.now spot flow.old (entry slot d keyed.now) result flow.new }
+    ensures { Enters source.entry.name.now spot flow.old (entry slot d keyed.now) result flow.new }
 {
-    let rec = filled::filled_record(keyed, name, slot, d);
+    let rec = filled::filled_record(keyed, source.name, slot, d);
     put_record(flow, spot.count, &rec);
     let count = spot.count + 1;
     let misfit = or_misfit(spot.misfit, count, slot, &rec);
@@ -82,47 +90,6 @@ fn enter(flow: &mut [u8], name: &[u8], spot: Spot, slot: Kind, d: u64, keyed: &[
         misfit,
         ..spot
     }
-}
-
-// One record of the sheet, in a slot of delega d.
-fn record(
-    sheet: &[u8],
-    flow: &mut [u8],
-    name: &[u8],
-    spot: Spot,
-    slot: Kind,
-    d: u64,
-) -> Option<Spot>
-    requires { Here sheet.now spot flow.old × (length name.now ≡ 20) × (d < 10_000_000) }
-    ensures { Follows sheet.now name.now spot flow.old (one_record slot d (drop spot.at sheet.now)) result flow.new }
-{
-    if sheet.len() - spot.at < Flow::RECORD {
-        return None;
-    }
-    let behind = beyond(spot, Flow::RECORD);
-    let at = spot.at;
-    let keyed = &sheet[at..at + Flow::RECORD];
-    Some(enter(flow, name, behind, slot, d, keyed))
-}
-
-// n lines of section x.
-fn lines(
-    sheet: &[u8],
-    flow: &mut [u8],
-    name: &[u8],
-    spot: Spot,
-    x: usize,
-    d: u64,
-    n: u64,
-) -> Option<Spot>
-    requires { Here sheet.now spot flow.old × (length name.now ≡ 20) × (d < 10_000_000) }
-    ensures { Follows sheet.now name.now spot flow.old (lines_from x d n (drop spot.at sheet.now)) result flow.new }
-{
-    let mut here = spot;
-    for _ in 0..n {
-        here = record(sheet, flow, name, here, Kind::Line(x), d)?;
-    }
-    Some(here)
 }
 
 // A count in so many digits at a spot.
@@ -136,68 +103,94 @@ fn count_at(sheet: &[u8], at: usize, width: usize) -> Result<u64, DigitsError>
     text::number(&sheet[at..at + width])
 }
 
-// The count and the lines of section x, and the balance record behind them.
-fn section(sheet: &[u8], flow: &mut [u8], name: &[u8], spot: Spot, x: usize, d: u64) -> Option<Spot>
-    requires { Here sheet.now spot flow.old × (length name.now ≡ 20) × (d < 10_000_000) }
-    ensures { Follows sheet.now name.now spot flow.old (counted 2 (drop spot.at sheet.now) (one_section x d)) result flow.new }
+// One record of the sheet, in a slot of delega d.
+fn record(source: Source, flow: &mut [u8], spot: Spot, slot: Kind, d: u64) -> Option<Spot>
+    requires { Here source.sheet.now spot flow.old × (d < 10_000_000) }
+    ensures { Follows source.entry.sheet.now source.entry.name.now spot flow.old (one_record slot d (drop spot.at source.entry.sheet.now)) result flow.new }
 {
-    let Ok(n) = count_at(sheet, spot.at, 2) else {
+    if source.sheet.len() - spot.at < Flow::RECORD {
+        return None;
+    }
+    let behind = beyond(spot, Flow::RECORD);
+    let at = spot.at;
+    let keyed = &source.sheet[at..at + Flow::RECORD];
+    Some(enter(source, flow, behind, slot, d, keyed))
+}
+
+// n lines of section x.
+fn lines(source: Source, flow: &mut [u8], spot: Spot, x: usize, d: u64, n: u64) -> Option<Spot>
+    requires { Here source.sheet.now spot flow.old × (d < 10_000_000) }
+    ensures { Follows source.entry.sheet.now source.entry.name.now spot flow.old (lines_from x d n (drop spot.at source.entry.sheet.now)) result flow.new }
+{
+    let mut here = spot;
+    for _ in 0..n {
+        here = record(source, flow, here, Kind::Line(x), d)?;
+    }
+    Some(here)
+}
+
+// The count and the lines of section x, and the balance record behind them.
+fn section(source: Source, flow: &mut [u8], spot: Spot, x: usize, d: u64) -> Option<Spot>
+    requires { Here source.sheet.now spot flow.old × (d < 10_000_000) }
+    ensures { Follows source.entry.sheet.now source.entry.name.now spot flow.old (counted 2 (drop spot.at source.entry.sheet.now) (one_section x d)) result flow.new }
+{
+    let Ok(n) = count_at(source.sheet, spot.at, 2) else {
         return None;
     };
     let behind = beyond(spot, 2);
-    let end = lines(sheet, flow, name, behind, x, d, n)?;
+    let end = lines(source, flow, behind, x, d, n)?;
     if n == 0 {
         return Some(end);
     }
     let made = slots::made_balance(x);
-    Some(enter(flow, name, end, Kind::Balance(x), d, &made))
+    Some(enter(source, flow, end, Kind::Balance(x), d, &made))
 }
 
 // The five sections.
-fn sections(sheet: &[u8], flow: &mut [u8], name: &[u8], spot: Spot, d: u64) -> Option<Spot>
-    requires { Here sheet.now spot flow.old × (length name.now ≡ 20) × (d < 10_000_000) }
-    ensures { Follows sheet.now name.now spot flow.old (sections_from d 5 0 (drop spot.at sheet.now)) result flow.new }
+fn sections(source: Source, flow: &mut [u8], spot: Spot, d: u64) -> Option<Spot>
+    requires { Here source.sheet.now spot flow.old × (d < 10_000_000) }
+    ensures { Follows source.entry.sheet.now source.entry.name.now spot flow.old (sections_from d 5 0 (drop spot.at source.entry.sheet.now)) result flow.new }
 {
     let mut here = spot;
     for x in 0..5 {
-        here = section(sheet, flow, name, here, x, d)?;
+        here = section(source, flow, here, x, d)?;
     }
     Some(here)
 }
 
 // One delega: its records 10 and 20, its sections, its 50-01.
-fn delega(sheet: &[u8], flow: &mut [u8], name: &[u8], spot: Spot, d: u64) -> Option<Spot>
-    requires { Here sheet.now spot flow.old × (length name.now ≡ 20) × (d < 10_000_000) }
-    ensures { Follows sheet.now name.now spot flow.old (one_delega d (drop spot.at sheet.now)) result flow.new }
+fn delega(source: Source, flow: &mut [u8], spot: Spot, d: u64) -> Option<Spot>
+    requires { Here source.sheet.now spot flow.old × (d < 10_000_000) }
+    ensures { Follows source.entry.sheet.now source.entry.name.now spot flow.old (one_delega d (drop spot.at source.entry.sheet.now)) result flow.new }
 {
-    let ten = record(sheet, flow, name, spot, Kind::Taxpayer, d)?;
-    let twenty = record(sheet, flow, name, ten, Kind::Domicile, d)?;
-    let lines = sections(sheet, flow, name, twenty, d)?;
-    record(sheet, flow, name, lines, Kind::Payment, d)
+    let ten = record(source, flow, spot, Kind::Taxpayer, d)?;
+    let twenty = record(source, flow, ten, Kind::Domicile, d)?;
+    let lines = sections(source, flow, twenty, d)?;
+    record(source, flow, lines, Kind::Payment, d)
 }
 
 // n deleghe, numbered from 1.
-fn deleghe(sheet: &[u8], flow: &mut [u8], name: &[u8], spot: Spot, n: u64) -> Option<Spot>
-    requires { Here sheet.now spot flow.old × (length name.now ≡ 20) × (n < 1000) }
-    ensures { Follows sheet.now name.now spot flow.old (deleghe_from n 1 (drop spot.at sheet.now)) result flow.new }
+fn deleghe(source: Source, flow: &mut [u8], spot: Spot, n: u64) -> Option<Spot>
+    requires { Here source.sheet.now spot flow.old × (n < 1000) }
+    ensures { Follows source.entry.sheet.now source.entry.name.now spot flow.old (deleghe_from n 1 (drop spot.at source.entry.sheet.now)) result flow.new }
 {
     let mut here = spot;
     for d in 0..n {
-        here = delega(sheet, flow, name, here, d + 1)?;
+        here = delega(source, flow, here, d + 1)?;
     }
     Some(here)
 }
 
 // The count of deleghe and the deleghe.
-fn counted_deleghe(sheet: &[u8], flow: &mut [u8], name: &[u8], spot: Spot) -> Option<Spot>
-    requires { Here sheet.now spot flow.old × (length name.now ≡ 20) }
-    ensures { Follows sheet.now name.now spot flow.old (counted 3 (drop spot.at sheet.now) (λ n. deleghe_from n 1)) result flow.new }
+fn counted_deleghe(source: Source, flow: &mut [u8], spot: Spot) -> Option<Spot>
+    requires { Here source.sheet.now spot flow.old }
+    ensures { Follows source.entry.sheet.now source.entry.name.now spot flow.old (counted 3 (drop spot.at source.entry.sheet.now) (λ n. deleghe_from n 1)) result flow.new }
 {
-    let Ok(n) = count_at(sheet, spot.at, 3) else {
+    let Ok(n) = count_at(source.sheet, spot.at, 3) else {
         return None;
     };
     let behind = beyond(spot, 3);
-    deleghe(sheet, flow, name, behind, n)
+    deleghe(source, flow, behind, n)
 }
 
 // A spot at the start of a sheet.
@@ -220,9 +213,10 @@ pub fn read_sheet(sheet: &[u8], flow: &mut [u8]) -> Option<Spot>
         return None;
     }
     let name = &sheet[Part::SUPPORT_NAME..Part::SUPPORT_NAME_END];
-    let head = record(sheet, flow, name, start(), Kind::Head, 0)?;
-    let all = counted_deleghe(sheet, flow, name, head)?;
-    let end = record(sheet, flow, name, all, Kind::Tail, 0)?;
+    let source = Source { sheet, name };
+    let head = record(source, flow, start(), Kind::Head, 0)?;
+    let all = counted_deleghe(source, flow, head)?;
+    let end = record(source, flow, all, Kind::Tail, 0)?;
     if end.at == sheet.len() {
         return Some(end);
     }

@@ -18,11 +18,9 @@ impl WalkPlace {
     fn next(self) -> Self
         ensures { result ≡ place_next self }
     {
-        let shown = self.shown;
-        if shown < usize::MAX {
-            return WalkPlace { shown: shown + 1 };
+        WalkPlace {
+            shown: self.shown.saturating_add(1),
         }
-        self
     }
 }
 

@@ -4,35 +4,28 @@
 // room, and the length is that of the sheet. Below it stand the sheet, a line end, the bytes expected in the room, and a line end.
 #![tactic(auto)]
 
+use desk::Numbers;
 use std::fs::File;
 use write::Writing;
 
-// The longest room of a case, and the longest sheet.
+// The longest room of a case.
 const MOST_ROOM: usize = 66_000;
 
-const MOST_SHEET: usize = 70_000;
+// The longest sheet, and the line end.
+const SHEET_ROOM: usize = 70_001;
 
 // What stands in a room before the call: characters that go through ninety and then begin again, so that a byte that moved is seen.
 fn mark(room: &mut [u8]) {
-    let mut i: usize = 0;
-    while i < room.len() {
-        room[i] = 33 + (i % 90) as u8;
-        i += 1;
+    for (i, place) in room.iter_mut().enumerate() {
+        *place = 33 + (i % 90) as u8;
     }
-}
-
-// The length of a flow that was written.
-fn print_length(rt: &HostRuntime, length: usize) {
-    desk::print_bytes(rt, b"WRITTEN ");
-    desk::print_decimal(rt, length as u64);
-    desk::print_bytes(rt, b"\n");
 }
 
 // Writes the flow of a sheet, and prints what comes of it.
 fn make(rt: &HostRuntime, sheet: &[u8], room: &mut [u8], expected: &[u8]) {
     match write::write(sheet, &mut *room) {
         Writing::Written(length) => {
-            print_length(rt, length);
+            desk::print_counted(rt, "WRITTEN", length);
             desk::print_comparison(rt, room, expected);
             desk::print_judgement(rt, judge::judge(&room[..length]));
         }
@@ -43,42 +36,21 @@ fn make(rt: &HostRuntime, sheet: &[u8], room: &mut [u8], expected: &[u8]) {
     }
 }
 
-// One case; false where there is none left.
-fn one_case(rt: &HostRuntime, cases: &mut File) -> bool {
-    let mut head = [0u8; 153];
-    let mut sheet = [0u8; MOST_SHEET + 1];
+// One case, below whose sheet stands the expected room; false where it is not there, or longer than a room can be.
+fn one_case(rt: &HostRuntime, cases: &mut File, call: Numbers, sheet: &mut [u8]) -> bool {
+    let size = call.first as usize;
     let mut room = [0u8; MOST_ROOM];
     let mut expected = [0u8; MOST_ROOM + 1];
-    let Some(n) = desk::next_case(rt, cases, &mut head, &mut sheet) else {
-        return false;
-    };
-    let call = desk::numbers_of(head);
-    let size = call.first as usize;
-    if MOST_ROOM < size {
-        return false;
-    }
-    if !desk::read_next(cases, &mut expected, size) {
+    if MOST_ROOM < size || !desk::read_next(cases, &mut expected, size) {
         return false;
     }
     mark(&mut room);
-    make(rt, &sheet[0..n], &mut room[0..size], &expected[0..size]);
+    make(rt, sheet, &mut room[..size], &expected[..size]);
     true
-}
-
-// The cases of one file.
-fn run_file(rt: &HostRuntime, path: &[u8]) {
-    let Some(mut cases) = desk::open_cases(rt, path) else {
-        return;
-    };
-    for _ in 0..desk::MOST_CASES {
-        if !one_case(rt, &mut cases) {
-            break;
-        }
-    }
 }
 
 // The cases whose rooms were written by hand, then the sheets that the reference has answered.
 fn main(rt: HostRuntime) {
-    run_file(&rt, b"sheets");
-    run_file(&rt, b"vectors");
+    desk::run_cases::<SHEET_ROOM, _>(&rt, b"sheets", desk::CALL_HEADER, one_case);
+    desk::run_cases::<SHEET_ROOM, _>(&rt, b"vectors", desk::CALL_HEADER, one_case);
 }

@@ -14,43 +14,39 @@ pub loop-i-init : goal.loop-i-init
 loop-i-init c =
     let right = sym c.size_right.ensures ∙ c.if-not-size_right.false in
     let z = size-sized _ right in
-    (omega arith, omega (arith, z.most), omega arith, small-start _ c.no_tally-tally.ensures, ap (λ (t : Tally). t.seen) c.no_tally-tally.ensures, judged-all _ right _ c.no_tally-tally.ensures)
+    (omega (arith, z.most), omega arith, small-start _ c.no_tally-tally.ensures, ap (λ (t : Tally). t.seen) c.no_tally-tally.ensures, judged-all _ right _ c.no_tally-tally.ensures)
 
 pub overflow_mul-at : goal.overflow_mul-at
-overflow_mul-at c = omega (arith, c.loop-i.invariant.1)
+overflow_mul-at c = omega (arith, c.loop-i.invariant.0)
 
 pub overflow_add-at : goal.overflow_add-at
-overflow_add-at c = omega (arith, c.loop-i.invariant.1)
+overflow_add-at c = omega (arith, c.loop-i.invariant.0)
 
 pub slice_bounds-step_by-end : goal.slice_bounds-step_by-end
-slice_bounds-step_by-end c = omega (arith, c.loop-i.invariant.2)
+slice_bounds-step_by-end c = omega (arith, c.loop-i.invariant.1)
 
 pub step_by-done-requires : goal.step_by-done-requires
 step_by-done-requires c =
     let l = c.loop-i in
-    (part-is l.i _ (omega (arith, l.invariant.2)), l.invariant.3, omega (arith, l.invariant.1, l.invariant.4))
+    (part-is l.i _ (omega (arith, l.invariant.1)), l.invariant.2, omega (arith, l.invariant.0, l.invariant.3))
 
 pub returns-in-Fault : goal.returns-in-Fault
-returns-in-Fault c = sym (c.loop-i.invariant.5 ∙ turn-stops _ _ _ c.loop-i-test.true _ _ c.step_by-done.ensures _ _ c.in-Fault.is)
-
-pub overflow_add-i : goal.overflow_add-i
-overflow_add-i c = omega (arith)
+returns-in-Fault c = sym (c.loop-i.invariant.4 ∙ turn-stops _ _ _ c.loop-i-test.true _ _ c.step_by-done.ensures _ _ c.in-Fault.is)
 
 pub loop-i-preserved : goal.loop-i-preserved
 loop-i-preserved c =
     let l = c.loop-i in
     let in-loop = c.loop-i-test.true in
     let done = c.step_by-done.ensures in (
-      omega arith,
+      l.invariant.0,
       l.invariant.1,
-      l.invariant.2,
-      turn_small _ _ l.i in-loop _ _ done l.invariant.2 l.invariant.3 (omega (arith, l.invariant.1, l.invariant.4)),
-      turn-seen _ _ l.i in-loop _ _ done ∙ ap (λ (k : ℕ). k + 1) l.invariant.4,
-      l.invariant.5 ∙ turn_on _ _ l.i in-loop _ _ done c.in_default.is,
+      turn_small _ _ l.i in-loop _ _ done l.invariant.1 l.invariant.2 (omega (arith, l.invariant.0, l.invariant.3)),
+      turn-seen _ _ l.i in-loop _ _ done ∙ ap (λ (k : ℕ). k + 1) l.invariant.3,
+      l.invariant.4 ∙ turn_on _ _ l.i in-loop _ _ done c.in_default.is,
     )
 
 pub ended-requires : goal.ended-requires
-ended-requires c = c.loop-i.invariant.3
+ended-requires c = c.loop-i.invariant.2
 
 pub returns : goal.returns
-returns c = c.ended.ensures ∙ sym (c.loop-i.invariant.5 ∙ (ap (judged_from c.loop-i.tally) (record-none _ _ _ c.loop-i-test.false) ∙ judged-end _))
+returns c = c.ended.ensures ∙ sym (c.loop-i.invariant.4 ∙ (ap (judged_from c.loop-i.tally) (record-none _ _ _ c.loop-i-test.false) ∙ judged-end _))

@@ -8,7 +8,4 @@ use Rattle.ep.proofs.ep_judge.Given as goal
 
 abbrev pub invariant-loop-i : goal.invariant-loop-i
 invariant-loop-i l =
-    (l.i ≤ l.count) × (l.count ≤ 10000) × (l.count * 1900 ≤ length l.records) × Small l.tally × (l.tally.seen ≡ l.i) × (judged l.records ≡ judged_from l.tally (records_in (l.count - l.i) (drop (l.i * 1900) l.records)))
-
-abbrev pub decreases-loop-i : goal.decreases-loop-i
-decreases-loop-i l = l.count - l.i
+    (l.count ≤ 10000) × (l.count * 1900 ≤ length l.records) × Small l.tally × (l.tally.seen ≡ l.i) × (judged l.records ≡ judged_from l.tally (records_in (l.count - l.i) (drop (l.i * 1900) l.records)))

@@ -1,16 +1,18 @@
 -- `ep::kind_of` meets its contract.
-use borrow.Author.Tests.{eq-eqb, ne_eqb}
+use native.Mathlib.Omega.{arith}
+use borrow.Author.Tests.{ne_eqb}
+use lib.ListN.{get_or}
 use Rattle.ep.specs.Payments.{kind_of}
 use Rattle.ep.proofs.kind_of.Goals as goal
 
-pub returns-then-first-eq77 : goal.returns-then-first-eq77
+pub returns-in-77 : goal.returns-in-77
 unfolding kind_of
-returns-then-first-eq77 c = simp (eq-eqb _ _ c.if-first-eq77.true)
+returns-in-77 c = simp c.in-77.is
 
-pub returns-then-first-eq86 : goal.returns-then-first-eq86
+pub returns-in-86 : goal.returns-in-86
 unfolding kind_of
-returns-then-first-eq86 c = simp (ne_eqb _ _ c.if-first-eq77.false, eq-eqb _ _ c.if-first-eq86.true)
+returns-in-86 c = simp c.in-86.is
 
-pub returns : goal.returns
+pub returns-in_default : goal.returns-in_default
 unfolding kind_of
-returns c = simp (ne_eqb _ _ c.if-first-eq77.false, ne_eqb _ _ c.if-first-eq86.false)
+returns-in_default c = let h = c.in_default.in_default-own in simp (ne_eqb (get_or c.args.rec.now 0 0) 77 (λ e. absurd (omega arith)), ne_eqb (get_or c.args.rec.now 0 0) 86 (λ e. absurd (omega arith)))

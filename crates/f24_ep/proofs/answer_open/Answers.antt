@@ -2,8 +2,8 @@
 use Rattle.f24_ep.proofs.Going.{sound-pieces, answer-of-bytes}
 use Rattle.f24_ep.proofs.answer_open.Goals as goal
 
-pub answered-answer-requires : goal.answered-answer-requires
-answered-answer-requires c = let g = c.judge_open-pieces.ensures in sound-pieces _ g.pieces g.course
+pub answered-requires : goal.answered-requires
+answered-requires c = let g = c.in_ok-course.ensures in sound-pieces _ g.pieces g.course
 
 pub returns : goal.returns
-returns c = answer-of-bytes _ _ c.judge_open-pieces.ensures c.answered-answer.ensures
+returns c = answer-of-bytes _ _ c.in_ok-course.ensures c.answered.ensures

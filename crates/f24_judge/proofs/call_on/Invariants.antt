@@ -1,11 +1,8 @@
 -- `f24_judge::call_on` meets its contract: going on from the calls that have been made gives what all of them come to.
-use Prim.Native.Nat.{◌-◌, ◌≤◌}
+use Prim.Native.Nat.{◌-◌}
 use mathlib.Core.Path.{◌≡◌}
 use Rattle.f24_judge.specs.InTurn.{called_on, calls_of}
 use Rattle.f24_judge.proofs.call_on.Given as goal
 
 abbrev pub invariant-loop-made : goal.invariant-loop-made
-invariant-loop-made l = (l.made ≤ 546) × (called_on (546 - l.made) l.flow l.portion l.last l.made ≡ calls_of l.flow l.portion)
-
-abbrev pub decreases-loop-made : goal.decreases-loop-made
-decreases-loop-made l = 546 - l.made
+invariant-loop-made l = called_on (546 - l.made) l.flow l.portion l.last l.made ≡ calls_of l.flow l.portion

@@ -3,16 +3,18 @@ use mathlib.Core.Path.{sym, ◌∙◌}
 use native.Mathlib.Omega.{arith}
 use Rattle.text.proofs.Bytes.{part_length}
 use Rattle.judge.proofs.judge.Goals as goal
-use Rattle.judge.proofs.judge.Goals.{Else-n-ne0}
+use Rattle.judge.proofs.judge.Goals.{Else-n-ne0, then-n-eq0-via-then-n-eq0, then-n-eq0-via-else-n-eq0+then-n-ne0}
 
 pub returns-then-n-gt-MOST_BYTES : goal.returns-then-n-gt-MOST_BYTES
 returns-then-n-gt-MOST_BYTES c = c.refused.ensures ∙ sym (judged-long _ c.if-n-gt-MOST_BYTES.true)
 
 pub returns-then-n-eq0 : goal.returns-then-n-eq0
-returns-then-n-eq0 c = c.refused-then-n-eq0.ensures ∙ sym (judged-empty _ c.if-n-gt-MOST_BYTES.false c.if-n-eq0.true)
-
-pub returns-then-n-ne0 : goal.returns-then-n-ne0
-returns-then-n-ne0 c = c.refused-then-n-ne0.ensures ∙ sym (judged-ragged _ c.if-n-gt-MOST_BYTES.false c.if-n-eq0.false c.if-n-ne0.true)
+returns-then-n-eq0 c =
+    c.refused-then-n-eq0.ensures
+    ∙ (elim c.then-n-eq0.branch [
+      | then-n-eq0-via-then-n-eq0 w ↦ sym (judged-empty _ c.if-n-gt-MOST_BYTES.false w.if-n-eq0.true)
+      | then-n-eq0-via-else-n-eq0+then-n-ne0 w ↦ sym (judged-ragged _ c.if-n-gt-MOST_BYTES.false w.if-n-eq0.false w.if-n-ne0.true)
+    ])
 
 -- a flow that refusals 1 and 2 leave has a record at least
 pub judge_from-requires : goal.judge_from-requires

@@ -1,106 +1,55 @@
-use mathlib.Core.Path.{◌≡◌, refl, sym, ap, ◌∙◌}
-use Prim.Native.Nat.{ℕ, ◌+◌, ◌≤◌}
+use mathlib.Core.Path.{◌≡◌, refl, sym, ap, subst, ◌∙◌}
+use Prim.Native.Nat.{ℕ, ◌+◌, ◌<◌}
 use native.Mathlib.Omega.{arith}
 use mathlib.Core.List.{List}
-use lib.ListN.{length, drop, get_or}
-use Rattle.records.specs.Reading.{non_digit_at}
-use Rattle.records.proofs.FieldByField.{inside, in_four, field_is, field-within, non-digit-near, bad-on, bad-here, bad-end}
+use lib.ListN.{length, take, get_or}
+use lib.Seq.{take-append_seam}
+use Rattle.records.proofs.FieldByField.{non-digit-near, bad-on, bad-here, bad-end}
 use Rattle.judge.specs.Flow.{refused_with}
 use Rattle.rules.specs.Checks.{bad_fields}
 use Rattle.layout.specs.declared.Field.{Field}
 use Rattle.layout.specs.declared.Fields.{Fields}
-use Rattle.layout.specs.declared.Kind.{Kind}
-use Rattle.layout.specs.Fields.{nowhere, listed, fields_of, bytes_of}
+use Rattle.layout.specs.Fields.{Within, nowhere, listed, fields_of}
+use Rattle.layout.proofs.Within.{fields_within}
 use Rattle.std.specs.Result.{is_err}
-use Rattle.text.specs.Answers.{Digits}
-use Rattle.text.specs.Numbers.{number_of}
 use Rattle.judge.proofs.misread.Goals as goal
-use Rattle.judge.proofs.misread.Goals.{After-read_field-said, At-loop-f, In-loop-f}
+use Rattle.judge.proofs.misread.Goals.{After-fields_of-fields}
 
-abbrev AtLoop : Type 0
-AtLoop = At-loop-f
+-- The fields of a kind stand first among the four places.
+all-listed : (fl : List Field) → take (length fl) (listed fl).fields ≡ fl
+all-listed fl = take-append_seam fl _
 
-abbrev kind : AtLoop → Kind
-kind c = c.args.kind
+abbrev looked : After-fields_of-fields → List Field
+looked c = take c.fields_of-fields.result.count c.fields_of-fields.result.fields
 
-abbrev rec : AtLoop → List ℕ
-rec c = c.args.rec.now
+fields-are : (c : After-fields_of-fields) → looked c ≡ fields_of c.args.kind
+fields-are c = ap (λ (x : Fields). take x.count x.fields) c.fields_of-fields.ensures ∙ all-listed (fields_of c.args.kind)
 
-abbrev fs : AtLoop → Fields
-fs c = c.fields_of-fields.result
+field-within : (c : After-fields_of-fields) (j : ℕ) → j < length (looked c) → Within (get_or (looked c) j nowhere)
+field-within c j h = subst (λ (fl : List Field). Within (get_or fl j nowhere)) (sym (fields-are c)) (fields_within c.args.kind j (omega (arith, h, ap length (fields-are c))))
 
-listed-are : (c : AtLoop) → fs c ≡ listed (fields_of (kind c))
-listed-are c = c.fields_of-fields.ensures
+all : (c : After-fields_of-fields) → bad_fields (looked c) c.args.rec.now ≡ bad_fields (fields_of c.args.kind) c.args.rec.now
+all c = ap (λ (fl : List Field). bad_fields fl c.args.rec.now) (fields-are c)
 
--- what has been found so far, of the fields of this kind
-abbrev held : (c : AtLoop) → (c.loop-f.f ≤ length (fields_of (kind c))) × (bad_fields (fields_of (kind c)) (rec c) ≡ bad_fields (drop c.loop-f.f (fields_of (kind c))) (rec c))
-held c = c.loop-f.invariant (kind c) (listed-are c)
-
--- a field is looked at
-abbrev AtField : Type 0
-AtField = In-loop-f
-
-abbrev loop-of : AtField → AtLoop
-loop-of c = (goal.at.offset_bounds-list-f c).At-loop-f
-
-abbrev f-of : AtField → ℕ
-f-of c = (loop-of c).loop-f.f
-
--- what was read of it
-read : (p : AtField) (q : Kind) (d : Digits) → fs (loop-of p) ≡ listed (fields_of q) → d ≡ number_of (bytes_of (rec (loop-of p)) (get_or (fs (loop-of p)).fields (f-of p) nowhere)) → d ≡ number_of (bytes_of (rec (loop-of p)) (get_or (fields_of q) (f-of p) nowhere))
-read p q d e s =
-    s ∙ ap (λ (x : Field). number_of (bytes_of (rec (loop-of p)) x)) (field_is q (fs (loop-of p)) e (f-of p) p.loop-f-test.true)
-
-pub loop-f-init : goal.loop-f-init
-loop-f-init c = λ q e. (omega arith, refl)
-
-pub offset_bounds-list-f : goal.offset_bounds-list-f
-offset_bounds-list-f c = omega (arith, in_four (kind (loop-of c)) (fs (loop-of c)) (listed-are (loop-of c)) (f-of c) c.loop-f-test.true)
-
-pub bounds-list-f : goal.bounds-list-f
-bounds-list-f c = in_four (kind (loop-of c)) (fs (loop-of c)) (listed-are (loop-of c)) (f-of c) c.loop-f-test.true
+pub loop-field-init : goal.loop-field-init
+loop-field-init c = refl
 
 pub read_field-said-requires : goal.read_field-said-requires
-read_field-said-requires c = (c.requires.0, field-within (kind (loop-of (goal.at.read_field-said-requires c).In-loop-f)) (fs (loop-of (goal.at.read_field-said-requires c).In-loop-f)) (listed-are (loop-of (goal.at.read_field-said-requires c).In-loop-f)) (f-of (goal.at.read_field-said-requires c).In-loop-f) c.loop-f-test.true)
-
-pub overflow_add-k : goal.overflow_add-k
-overflow_add-k c = omega (arith, c.requires.1)
+read_field-said-requires c = (c.requires.0, field-within (goal.at.read_field-said-requires c).After-fields_of-fields c.loop-field.field-index c.loop-field-test.true)
 
 pub non_digit_at-requires : goal.non_digit_at-requires
-non_digit_at-requires c =
-    let p = (goal.at.non_digit_at-requires c).In-loop-f in
-    let l = loop-of p in
-    non-digit-near _ (rec l) (field-within (kind l) (fs l) (listed-are l) (f-of p) p.loop-f-test.true) _ c.read_field-said.ensures
+non_digit_at-requires c = non-digit-near _ _ (field-within (goal.at.non_digit_at-requires c).After-fields_of-fields c.loop-field.field-index c.loop-field-test.true) _ c.read_field-said.ensures
 
 pub returns-in_default : goal.returns-in_default
 returns-in_default c =
-    let r = (goal.at.returns-in_default c).After-read_field-said in
-    let p = (goal.at.returns-in_default c).In-loop-f in
-    let l = loop-of p in
-    let h = inside (kind l) (fs l) (listed-are l) (f-of p) p.loop-f-test.true in
-    let k = l.args.k in
+    let k = (goal.at.returns-in_default c).After-fields_of-fields in
     c.refused.ensures
-    ∙ rw ((held l).1 ∙ bad-here _ _ _ h _ (read p (kind l) _ (listed-are l) r.read_field-said.ensures) (ap is_err c.in_default.is)) (ap (refused_with 7 (k + 1)) (c.non_digit_at.ensures ∙ ap (λ (x : Field). non_digit_at x r.read_field-said.result) (field_is (kind l) (fs l) (listed-are l) (f-of p) p.loop-f-test.true)))
+    ∙ rw (sym (all k) ∙ c.loop-field.invariant ∙ bad-here _ _ _ c.loop-field-test.true _ c.read_field-said.ensures (ap is_err c.in_default.is)) (ap (refused_with 7 (k.args.k + 1)) c.non_digit_at.ensures)
 
-pub overflow_add-f : goal.overflow_add-f
-overflow_add-f c = let q = (goal.at.overflow_add-f c).In-loop-f in omega (arith, in_four (kind (loop-of q)) (fs (loop-of q)) (listed-are (loop-of q)) (f-of q) q.loop-f-test.true)
-
-pub loop-f-smaller : goal.loop-f-smaller
-loop-f-smaller c = let q = (goal.at.loop-f-smaller c).In-loop-f in omega (arith, q.loop-f-test.true)
-
-pub loop-f-preserved : goal.loop-f-preserved
-loop-f-preserved c = λ q e.
-    let r = (goal.at.loop-f-preserved c).After-read_field-said in
-    let p = (goal.at.loop-f-preserved c).In-loop-f in
-    let h = inside q (fs (loop-of p)) e (f-of p) p.loop-f-test.true in
-    let i = (loop-of p).loop-f.invariant q e in
-    (omega (arith, h), i.1 ∙ bad-on _ _ _ h _ (sym (read p q _ e r.read_field-said.ensures) ∙ c.in-Ok.is))
-
-pub overflow_add-k-2 : goal.overflow_add-k-2
-overflow_add-k-2 c = omega (arith, c.requires.1)
+pub loop-field-preserved : goal.loop-field-preserved
+loop-field-preserved c = c.loop-field.invariant ∙ bad-on _ _ _ c.loop-field-test.true _ (sym c.read_field-said.ensures ∙ c.in-Ok.is)
 
 pub returns : goal.returns
 returns c =
-    let l = (goal.at.returns c).At-loop-f in
-    let e : length (fields_of (kind l)) ≡ l.loop-f.f = let i = (held l).0 in omega (arith, c.loop-f-test.false, ap (λ (x : Fields). x.count) (listed-are l)) in
-    c.refused-2.ensures ∙ rw ((held l).1 ∙ bad-end (fields_of (kind l)) (rec l) l.loop-f.f (omega arith))
+    let k = (goal.at.returns c).After-fields_of-fields in
+    c.refused-2.ensures ∙ rw (sym (all k) ∙ c.loop-field.invariant ∙ bad-end _ _ _ c.loop-field-test.false)

@@ -5,16 +5,14 @@ use Prim.Native.Nat.{ℕ, ◌-◌, ◌*◌}
 use native.Mathlib.Omega.{arith}
 use Rattle.judge.proofs.Records.{none_first, none-beyond, record-there}
 use Rattle.judge.proofs.nth_record.Goals as goal
+use Rattle.judge.proofs.nth_record.Goals.{then-k-eq0-via-then-k-eq0, then-k-eq0-via-else-k-eq0+then-flow-k}
 
 pub returns-then-k-eq0 : goal.returns-then-k-eq0
 returns-then-k-eq0 c =
-    let e = none_first c.args.flow.now c.args.k c.if-k-eq0.true in
-    (sym e.0, refl, omega (arith, e.1))
-
-pub returns-then-flow-k : goal.returns-then-flow-k
-returns-then-flow-k c =
-    let e = none-beyond c.args.flow.now c.args.k c.if-flow-k.true in
-    (sym e.0, refl, omega (arith, e.1))
+    elim c.then-k-eq0.branch [
+      | then-k-eq0-via-then-k-eq0 w ↦ let e = none_first c.args.flow.now c.args.k w.if-k-eq0.true in (sym e.0, refl, omega (arith, e.1))
+      | then-k-eq0-via-else-k-eq0+then-flow-k w ↦ let e = none-beyond c.args.flow.now c.args.k w.if-flow-k.true in (sym e.0, refl, omega (arith, e.1))
+    ]
 
 pub returns : goal.returns
 returns c =

@@ -13,14 +13,14 @@ from_one n = deleghe_from n 1
 pub returns-in_default : goal.returns-in_default
 returns-in_default c =
     let s = c in
-    counts-none s.args.sheet.now s.args.name.now s.args.spot s.args.flow.now 3 from_one c.count_at.result c.count_at.ensures (opened c.in_default.in_default-own.keys2)
+    counts-none s.args.source.sheet.now s.args.source.name.now s.args.spot s.args.flow.now 3 from_one c.count_at.result c.count_at.ensures (opened c.in_default.in_default-own.keys2)
 
 pub deleghe-requires : goal.deleghe-requires
 deleghe-requires c =
     let s = c in
-    (here-counted _ s.args.name.now _ _ s.requires.0 3 _ _ _ c.count_at.ensures c.in-Number.is c.beyond-behind.ensures, s.requires.1, count_small 3 _ _ _ c.count_at.ensures c.in-Number.is)
+    (here-counted _ s.args.source.name.now _ _ s.requires 3 _ _ _ c.count_at.ensures c.in-Number.is c.beyond-behind.ensures, count_small 3 _ _ _ c.count_at.ensures c.in-Number.is)
 
 pub returns : goal.returns
 returns c =
     let s = c in
-    counts s.args.sheet.now s.args.name.now s.args.spot s.args.flow.now 3 _ from_one _ _ _ c.count_at.ensures c.in-Number.is (rw c.beyond-behind.ensures at c.deleghe.ensures)
+    counts s.args.source.sheet.now s.args.source.name.now s.args.spot s.args.flow.now 3 _ from_one _ _ _ c.count_at.ensures c.in-Number.is (rw c.beyond-behind.ensures at c.deleghe.ensures)

@@ -15,14 +15,14 @@ use Rattle.sheet.proofs.delega.Goals as goal
 use Rattle.sheet.proofs.delega.Goals.{Start}
 
 abbrev left : Start → Spot → List ℕ
-left s b = drop b.at s.args.sheet.now
+left s b = drop b.at s.args.source.sheet.now
 
 abbrev Goes : Start → Spot → List ℕ → Reading → Type 0
-Goes s b g S = Going s.args.sheet.now s.args.name.now s.args.spot s.args.flow.now (one_delega s.args.d (left s s.args.spot)) b g S
+Goes s b g S = Going s.args.source.sheet.now s.args.source.name.now s.args.spot s.args.flow.now (one_delega s.args.d (left s s.args.spot)) b g S
 
 -- What the walk over the next part of it answers.
 abbrev Gives : Start → Spot → List ℕ → Reading → Walked → List ℕ → Type 0
-Gives s b g S w h = Follows s.args.sheet.now s.args.name.now b g S w h
+Gives s b g S w h = Follows s.args.source.sheet.now s.args.source.name.now b g S w h
 
 -- Before its record 10.
 opened : (s : Start) → Goes s s.args.spot s.args.flow.now (and_then (one_record Taxpayer s.args.d (left s s.args.spot)) (after_ten s.args.d))
@@ -52,7 +52,7 @@ pub record-requires-2 : goal.record-requires-2
 record-requires-2 c =
     let s = (goal.at.record-requires-2 c).Start in
     let ten = behind-ten s c.«record».result c.in-To.ten c.«record».new.flow c.«record».ensures c.in-To.is in
-    (ten.here, s.requires.1, s.requires.2)
+    (ten.here, s.requires.1)
 
 pub returns-in_default-record : goal.returns-in_default-record
 returns-in_default-record c =
@@ -65,7 +65,7 @@ sections-requires c =
     let s = (goal.at.sections-requires c).Start in
     let ten = behind-ten s c.«record».result c.in-To.ten c.«record».new.flow c.«record».ensures c.in-To.is in
     let twenty = behind-twenty s c.in-To.ten c.«record».new.flow c.record-2.result c.in-To-record.twenty c.record-2.new.flow ten c.record-2.ensures c.in-To-record.is in
-    (twenty.here, s.requires.1, s.requires.2)
+    (twenty.here, s.requires.1)
 
 pub returns-in_default-sections : goal.returns-in_default-sections
 returns-in_default-sections c =
@@ -80,7 +80,7 @@ record-requires-3 c =
     let ten = behind-ten s c.«record».result c.in-To.ten c.«record».new.flow c.«record».ensures c.in-To.is in
     let twenty = behind-twenty s c.in-To.ten c.«record».new.flow c.record-2.result c.in-To-record.twenty c.record-2.new.flow ten c.record-2.ensures c.in-To-record.is in
     let lines = behind-lines s c.in-To-record.twenty c.record-2.new.flow c.sections.result c.in-To-sections.lines c.sections.new.flow twenty c.sections.ensures c.in-To-sections.is in
-    (lines.here, s.requires.1, s.requires.2)
+    (lines.here, s.requires.1)
 
 pub shape_of-flow : goal.shape_of-flow
 shape_of-flow c =

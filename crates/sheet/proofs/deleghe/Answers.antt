@@ -11,17 +11,17 @@ use Rattle.sheet.proofs.deleghe.Goals.{After-delega}
 -- After `delega`: the walk is under way, with what is left to be read.
 abbrev Goes : After-delega → Spot → List ℕ → Reading → Type 0
 Goes c b g S =
-    Going c.args.sheet.now c.args.name.now c.args.spot c.args.flow.now (deleghe_from c.args.n 1 (drop c.args.spot.at c.args.sheet.now)) b g S
+    Going c.args.source.sheet.now c.args.source.name.now c.args.spot c.args.flow.now (deleghe_from c.args.n 1 (drop c.args.spot.at c.args.source.sheet.now)) b g S
 
 -- The next delega, and the deleghe behind it.
 abbrev next : After-delega → Reading
-next c = one_delega (c.loop-d.d + 1) (drop c.loop-d.here.at c.args.sheet.now)
+next c = one_delega (c.loop-d.d + 1) (drop c.loop-d.here.at c.args.source.sheet.now)
 
 abbrev behind : After-delega → List ℕ → Reading
 behind c = deleghe_from (c.args.n - (c.loop-d.d + 1)) (c.loop-d.d + 1 + 1)
 
 opened : (c : After-delega) → Goes c c.loop-d.here c.loop-d.flow (and_then (next c) (behind c))
-opened c = going-by _ _ _ _ _ _ _ _ _ (deleghe-on c.args.n c.loop-d.d (drop c.loop-d.here.at c.args.sheet.now) c.loop-d-test.true) c.loop-d.invariant
+opened c = going-by _ _ _ _ _ _ _ _ _ (deleghe-on c.args.n c.loop-d.d (drop c.loop-d.here.at c.args.source.sheet.now) c.loop-d-test.true) c.loop-d.invariant
 
 pub returns-in_default : goal.returns-in_default
 returns-in_default c =
@@ -35,4 +35,4 @@ loop-d-preserved c =
 
 pub returns : goal.returns
 returns c =
-    going_end _ _ _ _ _ _ _ (going-by _ _ _ _ _ _ _ _ _ (deleghe-end c.args.n c.loop-d.d (drop c.loop-d.here.at c.args.sheet.now) c.loop-d-test.false) c.loop-d.invariant)
+    going_end _ _ _ _ _ _ _ (going-by _ _ _ _ _ _ _ _ _ (deleghe-end c.args.n c.loop-d.d (drop c.loop-d.here.at c.args.source.sheet.now) c.loop-d-test.false) c.loop-d.invariant)

@@ -7,4 +7,4 @@ use Rattle.sheet.proofs.deleghe.Given as goal
 
 abbrev pub invariant-loop-d : goal.invariant-loop-d
 invariant-loop-d l =
-    Going l.sheet l.name l.initial.here l.initial.flow (deleghe_from l.n 1 (drop l.initial.here.at l.sheet)) l.here l.flow (deleghe_from (l.n - l.d) (l.d + 1) (drop l.here.at l.sheet))
+    Going l.source.sheet.now l.source.name.now l.initial.here l.initial.flow (deleghe_from l.n 1 (drop l.initial.here.at l.source.sheet.now)) l.here l.flow (deleghe_from (l.n - l.d) (l.d + 1) (drop l.here.at l.source.sheet.now))

@@ -12,17 +12,17 @@ use Rattle.sheet.proofs.lines.Goals.{After-record}
 -- After `record`: the walk is under way, with what is left to be read.
 abbrev Goes : After-record → Spot → List ℕ → Reading → Type 0
 Goes c b g S =
-    Going c.args.sheet.now c.args.name.now c.args.spot c.args.flow.now (lines_from c.args.x c.args.d c.args.n (drop c.args.spot.at c.args.sheet.now)) b g S
+    Going c.args.source.sheet.now c.args.source.name.now c.args.spot c.args.flow.now (lines_from c.args.x c.args.d c.args.n (drop c.args.spot.at c.args.source.sheet.now)) b g S
 
 -- The next line, and the lines behind it.
 abbrev next : After-record → Reading
-next c = one_record (Line c.args.x) c.args.d (drop c.loop.here.at c.args.sheet.now)
+next c = one_record (Line c.args.x) c.args.d (drop c.loop.here.at c.args.source.sheet.now)
 
 abbrev behind : After-record → List ℕ → Reading
 behind c = lines_from c.args.x c.args.d (c.args.n - (c.loop.counter + 1))
 
 opened : (c : After-record) → Goes c c.loop.here c.loop.flow (and_then (next c) (behind c))
-opened c = going-by _ _ _ _ _ _ _ _ _ (lines-on c.args.x c.args.d c.args.n c.loop.counter (drop c.loop.here.at c.args.sheet.now) c.loop-test.true) c.loop.invariant
+opened c = going-by _ _ _ _ _ _ _ _ _ (lines-on c.args.x c.args.d c.args.n c.loop.counter (drop c.loop.here.at c.args.source.sheet.now) c.loop-test.true) c.loop.invariant
 
 pub returns-in_default : goal.returns-in_default
 returns-in_default c =
@@ -36,4 +36,4 @@ loop-preserved c =
 
 pub returns : goal.returns
 returns c =
-    going_end _ _ _ _ _ _ _ (going-by _ _ _ _ _ _ _ _ _ (lines_end c.args.x c.args.d c.args.n c.loop.counter (drop c.loop.here.at c.args.sheet.now) c.loop-test.false) c.loop.invariant)
+    going_end _ _ _ _ _ _ _ (going-by _ _ _ _ _ _ _ _ _ (lines_end c.args.x c.args.d c.args.n c.loop.counter (drop c.loop.here.at c.args.source.sheet.now) c.loop-test.false) c.loop.invariant)

@@ -7,4 +7,4 @@ use Rattle.sheet.proofs.lines.Given as goal
 
 abbrev pub invariant-loop : goal.invariant-loop
 invariant-loop l =
-    Going l.sheet l.name l.initial.here l.initial.flow (lines_from l.x l.d l.n (drop l.initial.here.at l.sheet)) l.here l.flow (lines_from l.x l.d (l.n - l.counter) (drop l.here.at l.sheet))
+    Going l.source.sheet.now l.source.name.now l.initial.here l.initial.flow (lines_from l.x l.d l.n (drop l.initial.here.at l.source.sheet.now)) l.here l.flow (lines_from l.x l.d (l.n - l.counter) (drop l.here.at l.source.sheet.now))

@@ -1,12 +1,11 @@
 -- `sheet::read_sheet` meets its contract: the head, the deleghe with their count and the tail are read one behind the other, and nothing is left behind them.
 -- The bytes behind a spot, and the walk under way there.
-use Prim.Native.Nat.{ℕ, ◌≤◌}
+use Prim.Native.Nat.{ℕ}
 use mathlib.Core.Path.{◌≡◌, refl, sym, ◌∙◌}
 use mathlib.Core.List.{List}
 use native.Mathlib.Omega.{arith}
 use lib.Dec.{lit≤}
-use lib.ListN.{length, drop}
-use Rattle.text.proofs.Bytes.{part_length}
+use lib.ListN.{drop}
 use Rattle.layout.specs.declared.Kind.TheVariants.{Head, Tail}
 use Rattle.layout.specs.Fields.{bytes_of, support_name}
 use Rattle.sheet.specs.declared.Spot.{Spot}
@@ -27,10 +26,6 @@ Goes s b g S = Going s.args.sheet.now (bytes_of s.args.sheet.now support_name) s
 -- The deleghe are numbered from 1.
 abbrev from_one : ℕ → List ℕ → Reading
 from_one n = deleghe_from n 1
-
--- The name in the head has twenty bytes.
-name-length : (s : Start) → 120 ≤ length s.args.sheet.now → length (bytes_of s.args.sheet.now support_name) ≡ 20
-name-length s h = part_length 20 19 s.args.sheet.now (omega arith)
 
 -- Before the head.
 opened : (s : Start) → Goes s start_spot s.args.flow.now (and_then (one_record Head 0 s.args.sheet.now) after_head)
@@ -63,7 +58,7 @@ returns-then-sheet-lt-RECORD c =
 pub record-requires : goal.record-requires
 record-requires c =
     let s = (goal.at.record-requires c).Start in
-    (here-start _ _ _ s.requires c.start.ensures, name-length s c.if-sheet-lt-RECORD.false, lit≤ tt)
+    (here-start _ _ _ s.requires c.start.ensures, lit≤ tt)
 
 pub returns-in_default : goal.returns-in_default
 returns-in_default c =
@@ -74,7 +69,7 @@ pub counted_deleghe-requires : goal.counted_deleghe-requires
 counted_deleghe-requires c =
     let s = (goal.at.counted_deleghe-requires c).Start in
     let head = behind-head s c.«record».result c.in-To.head c.«record».new.flow (rw c.start.ensures at c.«record».ensures) c.in-To.is in
-    (head.here, name-length s c.if-sheet-lt-RECORD.false)
+    head.here
 
 pub returns-in_default-counted_deleghe : goal.returns-in_default-counted_deleghe
 returns-in_default-counted_deleghe c =
@@ -87,7 +82,7 @@ record-requires-2 c =
     let s = (goal.at.record-requires-2 c).Start in
     let head = behind-head s c.«record».result c.in-To.head c.«record».new.flow (rw c.start.ensures at c.«record».ensures) c.in-To.is in
     let all = behind-all s c.in-To.head c.«record».new.flow c.counted_deleghe.result c.in-To-counted_deleghe.all c.counted_deleghe.new.flow head c.counted_deleghe.ensures c.in-To-counted_deleghe.is in
-    (all.here, name-length s c.if-sheet-lt-RECORD.false, lit≤ tt)
+    (all.here, lit≤ tt)
 
 pub returns-in_default-record : goal.returns-in_default-record
 returns-in_default-record c =

@@ -11,17 +11,17 @@ use Rattle.sheet.proofs.sections.Goals.{After-section}
 -- After `section`: the walk is under way, with what is left to be read.
 abbrev Goes : After-section → Spot → List ℕ → Reading → Type 0
 Goes c b g S =
-    Going c.args.sheet.now c.args.name.now c.args.spot c.args.flow.now (sections_from c.args.d 5 0 (drop c.args.spot.at c.args.sheet.now)) b g S
+    Going c.args.source.sheet.now c.args.source.name.now c.args.spot c.args.flow.now (sections_from c.args.d 5 0 (drop c.args.spot.at c.args.source.sheet.now)) b g S
 
 -- The next section, and the sections behind it.
 abbrev next : After-section → Reading
-next c = counted 2 (drop c.loop-x.here.at c.args.sheet.now) (one_section c.loop-x.x c.args.d)
+next c = counted 2 (drop c.loop-x.here.at c.args.source.sheet.now) (one_section c.loop-x.x c.args.d)
 
 abbrev behind : After-section → List ℕ → Reading
 behind c = sections_from c.args.d (5 - (c.loop-x.x + 1)) (c.loop-x.x + 1)
 
 opened : (c : After-section) → Goes c c.loop-x.here c.loop-x.flow (and_then (next c) (behind c))
-opened c = going-by _ _ _ _ _ _ _ _ _ (sections-on c.args.d 5 c.loop-x.x (drop c.loop-x.here.at c.args.sheet.now) c.loop-x-test.true) c.loop-x.invariant
+opened c = going-by _ _ _ _ _ _ _ _ _ (sections-on c.args.d 5 c.loop-x.x (drop c.loop-x.here.at c.args.source.sheet.now) c.loop-x-test.true) c.loop-x.invariant
 
 pub returns-in_default : goal.returns-in_default
 returns-in_default c =
@@ -35,4 +35,4 @@ loop-x-preserved c =
 
 pub returns : goal.returns
 returns c =
-    going_end _ _ _ _ _ _ _ (going-by _ _ _ _ _ _ _ _ _ (sections-end c.args.d 5 c.loop-x.x (drop c.loop-x.here.at c.args.sheet.now) c.loop-x-test.false) c.loop-x.invariant)
+    going_end _ _ _ _ _ _ _ (going-by _ _ _ _ _ _ _ _ _ (sections-end c.args.d 5 c.loop-x.x (drop c.loop-x.here.at c.args.source.sheet.now) c.loop-x-test.false) c.loop-x.invariant)

@@ -7,4 +7,4 @@ use Rattle.sheet.proofs.sections.Given as goal
 
 abbrev pub invariant-loop-x : goal.invariant-loop-x
 invariant-loop-x l =
-    Going l.sheet l.name l.initial.here l.initial.flow (sections_from l.d 5 0 (drop l.initial.here.at l.sheet)) l.here l.flow (sections_from l.d (5 - l.x) l.x (drop l.here.at l.sheet))
+    Going l.source.sheet.now l.source.name.now l.initial.here l.initial.flow (sections_from l.d 5 0 (drop l.initial.here.at l.source.sheet.now)) l.here l.flow (sections_from l.d (5 - l.x) l.x (drop l.here.at l.source.sheet.now))
