@@ -1,4 +1,5 @@
 -- The four ways in which a call for one delega is answered, and that its promise settles the answer.
+use Rattle.refusal.proofs.Parts.{refused-parts}
 use Rattle.std.specs.Prelude.{Err}
 use Prim.Native.Nat.{ℕ, ◌<◌, ◌≤◌}
 use mathlib.Core.Path.{◌≡◌, refl, sym, ◌∙◌}
@@ -62,7 +63,7 @@ closes-own d n Unknown h = absurd (false≢true h)
 -- where a delega is looked for and not there, the refusal is 21
 from-number : (d : ℕ) (st : State) (u : Used) (rs : List (List ℕ)) {n r p : ℕ} → (delega_from d st u rs).verdict ≡ Refused n r p → n ≡ 21
 unfolding delega_from
-from-number d st u [] e = cc
+from-number d st u [] e = sym (refused-parts e).0
 from-number d st u (x ∷ rs) {n} {r} {p} e = go (closes_at d st.deleghe (kind_in x)) _ e (from-number d (next st x) (next_used u (kind_in x)) rs)
   where
     go : (b : Bool) (rest : DelegaAnswer) → (cond b (answered st u) rest).verdict ≡ Refused n r p → (rest.verdict ≡ Refused n r p → n ≡ 21) → n ≡ 21
@@ -75,14 +76,14 @@ unfolding delega_of
 delega-number s d {n} {r} {p} e = by-verdict (judged s).verdict refl e
   where
     by_tests : (a b : Bool) → (cond a no_such_delega (cond b no_such_delega (delega_from d start_state none_used (records_of s)))).verdict ≡ Refused n r p → 1 ≤ n
-    by_tests true b q = let k : 21 ≡ n = cc in omega arith
-    by_tests false true q = let k : 21 ≡ n = cc in omega arith
+    by_tests true b q = let k : 21 ≡ n = (refused-parts q).0 in omega arith
+    by_tests false true q = let k : 21 ≡ n = (refused-parts q).0 in omega arith
     by_tests false false q = omega (arith, from-number d start_state none_used (records_of s) q)
 
     by-verdict : (v : Verdict) → (judged s).verdict ≡ v →
         (judged_first refused_as v (cond (eqb d 0) no_such_delega (cond (ltb (judged s).summary.deleghe d) no_such_delega (delega_from d start_state none_used (records_of s))))).verdict ≡ Refused n r p → 1 ≤ n
     by-verdict Accepted h q = by_tests (eqb d 0) (ltb (judged s).summary.deleghe d) q
-    by-verdict (Err why) h q = let w : why.number ≡ n = cc in omega (arith, (judgement-number s h).0)
+    by-verdict (Err why) h q = let w : why.number ≡ n = (refused-parts q).0 in omega (arith, (judgement-number s h).0)
 
 -- "any two answers allowed by it are equal"
 pub one-delega : (s : List ℕ) (d : ℕ) (a b : DelegaAnswer) → a ≡ delega_of s d → b ≡ delega_of s d → a ≡ b

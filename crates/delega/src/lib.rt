@@ -12,15 +12,15 @@ ghost use Rattle.delega.specs.OneDelega.{refused_as, answered, closes_at, delega
 
 use crate::used::Used;
 use amounts::Sums;
-use judge::Verdict;
 use layout::{Flow, Kind};
+use refusal::Refusal;
 use rules::State;
 
 // The verdict beside the delega's final balance, the number of its lines, the set of the sections that it uses with its size and its first, and its sums of each of
 // the five sections. All are zeros with a refusal.
 #[derive(Clone, Copy)]
 pub struct DelegaAnswer {
-    pub verdict: Verdict,
+    pub verdict: Result<(), Refusal>,
     pub balance: u64,
     pub lines: u64,
     pub set: u64,
@@ -30,11 +30,11 @@ pub struct DelegaAnswer {
 }
 
 // A refusal beside zeros.
-fn refused(number: u64, at: usize, position: usize) -> DelegaAnswer
-    ensures { result ≡ refused_as number at position }
+fn refused(why: Refusal) -> DelegaAnswer
+    ensures { result ≡ refused_as why.number why.«record» why.position }
 {
     DelegaAnswer {
-        verdict: Verdict::Refused(number, at, position),
+        verdict: Err(why),
         balance: 0,
         lines: 0,
         set: 0,
@@ -53,7 +53,7 @@ fn answer_of(st: State, used: Used) -> DelegaAnswer
 {
     let sums = st.money.delega.sections;
     DelegaAnswer {
-        verdict: Verdict::Accepted,
+        verdict: Ok(()),
         balance: amounts::final_of(st.money.delega.all),
         lines: used.lines,
         set: used.set,
@@ -85,7 +85,7 @@ fn delega_from(flow: &[u8], number: u64) -> DelegaAnswer
         used = used.after(kind);
         st = rules::next_state(st, kind, records::line_sums(rec, kind));
     }
-    refused(21, 0, 0)
+    refused(Refusal::NO_SUCH_LINE)
 }
 
 // The final balance, the lines, the sections and the section sums of the delega with this number, of any bytes.
@@ -93,12 +93,11 @@ pub fn delega(flow: &[u8], number: u64) -> DelegaAnswer
     ensures { result ≡ delega_of flow.now number }
 {
     let judgement = judge::judge(flow);
-    let verdict = judgement.verdict;
-    if let Verdict::Refused(code, at, position) = verdict {
-        return refused(code, at, position);
+    if let Err(why) = judgement.verdict {
+        return refused(why);
     }
     if number == 0 || judgement.summary.deleghe < number {
-        return refused(21, 0, 0);
+        return refused(Refusal::NO_SUCH_LINE);
     }
     delega_from(flow, number)
 }

@@ -12,8 +12,9 @@ ghost use Rattle.portion.specs.Inner.{last_of, course_by, Goes};
 use amounts::Sums;
 pub use bounds::at_most;
 use bounds::is_possible;
-use judge::{Summary, Verdict};
+use judge::Summary;
 use layout::{Flow, Part};
+use refusal::Refusal;
 
 // How a judgement stands: it goes on, or has ended with acceptance or with a refusal. As an answer also that the state is none that a judgement of this flow
 // can have handed back.
@@ -172,17 +173,17 @@ fn last_of(seen: usize, portion: usize, count: usize) -> usize
 }
 
 // How a judgement stands that has ended.
-fn ended_by(verdict: Verdict) -> Course
+fn ended_by(verdict: Result<(), Refusal>) -> Course
     ensures { result ≡ ended_by verdict }
 {
     match verdict {
-        Verdict::Accepted => Course::Accepted,
-        Verdict::Refused(number, at, position) => Course::Refused(number, at, position),
+        Ok(()) => Course::Accepted,
+        Err(why) => Course::Refused(why.number, why.record, why.position),
     }
 }
 
 // How it stands after a portion: where all records that were allowed have passed and the flow has more, it goes on.
-fn course_by(verdict: Verdict, seen: usize, last: usize, count: usize) -> Course
+fn course_by(verdict: Result<(), Refusal>, seen: usize, last: usize, count: usize) -> Course
     ensures { result ≡ course_by verdict seen last count }
 {
     if seen < last {

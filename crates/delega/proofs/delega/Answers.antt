@@ -25,8 +25,8 @@ accepted c = ap (λ (j : Judgement). j.verdict) (sym c.judge-judgement.ensures) 
 count : (c : AtAccepted) → c.judge-judgement.result.summary.deleghe ≡ (judged (flow c)).summary.deleghe
 count c = ap (λ (j : Judgement). j.summary.deleghe) c.judge-judgement.ensures
 
-pub returns-in-Refused : goal.returns-in-Refused
-returns-in-Refused c = c.refused.ensures ∙ sym (delega-of-refused _ _ (ap (λ (j : Judgement). j.verdict) (sym c.judge-judgement.ensures) ∙ c.in-Refused.is))
+pub returns-in-Err : goal.returns-in-Err
+returns-in-Err c = c.refused.ensures ∙ sym (delega-of-refused _ _ (ap (λ (j : Judgement). j.verdict) (sym c.judge-judgement.ensures) ∙ c.in-Err.is))
 
 pub returns-then-number-eq0 : goal.returns-then-number-eq0
 returns-then-number-eq0 c =
