@@ -15,7 +15,6 @@ ghost use Rattle.close.specs.Inner.{record_from, kept_after, moved_up, Reached};
 use layout::{Flow, Kind, Position};
 pub use numbers::each_once;
 use numbers::names;
-use text::Digits;
 
 // How far closing up has come: the records that stay so far, and the deleghe that begin among them.
 #[derive(Clone, Copy)]
@@ -29,11 +28,7 @@ fn number_in(rec: &[u8]) -> u64
     requires { length rec.now ≡ 120 }
     ensures { result ≡ value_of rec.now delega_number }
 {
-    match text::number(&rec[Position::DELEGA_NUMBER - 1..Position::SUBTYPE - 1]) {
-        Digits::Number(n) => n,
-        Digits::NonDigit(_) => 0,
-        Digits::TooLong => 0,
-    }
+    text::number(&rec[Position::DELEGA_NUMBER - 1..Position::SUBTYPE - 1]).unwrap_or(0)
 }
 
 // Whether a record of a kind stays: one that carries a number of the list does not.

@@ -52,10 +52,7 @@ fn first_value(rec: &[u8], kind: Kind) -> u64
     ensures { result ≡ value_of rec.now (get_or (fields_of kind) 0 nowhere) }
 {
     let fields = layout::fields_of(kind);
-    match records::read_field(rec, fields.fields[0]) {
-        Ok(v) => v,
-        Err(_) => 0,
-    }
+    records::read_field(rec, fields.fields[0]).unwrap_or(0)
 }
 
 // Check 14, of a delega whose lines have the sums t.

@@ -11,10 +11,7 @@ fn amount_in(rec: &[u8], at: usize) -> u64
     requires { (length rec.now ≡ 120) × (at + 15 ≤ 120) }
     ensures { result ≡ value_of rec.now (amount_at at) }
 {
-    match words::any_amount_at(rec, at) {
-        Some(v) => v,
-        None => 0,
-    }
+    words::any_amount_at(rec, at).unwrap_or(0)
 }
 
 // The debit and the credit of a line of section s.

@@ -5,7 +5,7 @@ ghost use Rattle.amounts.specs.Names.{same_bytes};
 ghost use Rattle.sheet.specs.Slots.{type_text, subtype_text, slot_fault, made_balance};
 
 use layout::{Flow, Kind, Part, Position};
-use refusal::{Fault, Fault, Fault};
+use refusal::Fault;
 
 // The characters of the type of a kind.
 #[tactic(auto, unfolding(crate::specs::Slots::type_text))]

@@ -10,10 +10,8 @@ use native.Mathlib.Nat.{lt_of_lt_of_le, pow-le-pow_right, pow-suc, one-le-pow, m
 use borrow.Author.Tests.{lt-ltb, le-ltb, ltb-true, ltb-false}
 use lib.Dec.{ltb, eqb, eqb-suc-zero, lit<}
 use lib.ListN.{length, drop, get_or, length-append, drop_of_length-le}
-use Rattle.std.specs.Prelude.{Err}
-use Rattle.text.specs.declared.DigitsError.{DigitsError}
-use Rattle.text.specs.declared.DigitsError.TheVariants as Why
-use Rattle.text.specs.Answers.{Number, NonDigit, TooLong}
+use Rattle.std.specs.Result.{result_unwrap_or}
+use Rattle.text.specs.Answers.{Digits, Number, NonDigit, TooLong}
 use Rattle.text.specs.Numbers.{digit, number_from, number_of, amount_of, read_number, digits_of}
 use Rattle.text.proofs.Bytes.{drop-one, between, within}
 
@@ -150,6 +148,7 @@ spelled-end n i h = rw (let e : i ≡ 0 = omega arith in e) (go n)
     go (suc m) = le-ltb (suc m) 1 (omega arith) ∙ sym (eqb-suc-zero m)
 
 -- digits that say no number count 0
-pub unread-zero : (e : DigitsError) → amount_of (Err e) ≡ 0
-unread-zero (Why.NonDigit i) = refl
-unread-zero Why.TooLong = refl
+pub said-or-zero : (d : Digits) → result_unwrap_or d 0 ≡ amount_of d
+said-or-zero (Number n) = refl
+said-or-zero (NonDigit i) = refl
+said-or-zero TooLong = refl

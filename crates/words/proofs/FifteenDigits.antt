@@ -7,6 +7,7 @@ use native.Mathlib.Omega.{arith}
 use native.Mathlib.Nat.{pow-suc}
 use lib.ListN.{length, take, drop, get_or, length-drop, take-append-drop}
 use lib.Seq.{take-add, take-take, take-suc, drop-drop, drop_at, length-take-le}
+use Rattle.std.specs.Option.{unwrap_or}
 use Rattle.text.specs.Answers.{Digits, Number, NonDigit, TooLong}
 use Rattle.words.specs.Answers as Said
 use Rattle.text.specs.Numbers.{digit, number_from, number_of, amount_of, digits_of}
@@ -39,11 +40,11 @@ amount-number l v e = go (number_of l) e
     go (NonDigit i) f = let z : ◌≡◌ {A = ℕ} 0 1 = cc in absurd (omega arith)
     go TooLong f = let z : ◌≡◌ {A = ℕ} 0 1 = cc in absurd (omega arith)
 
--- Where no amount is said, the digits count 0.
-pub none-zero : (d : Digits) → Said.NonDigit ≡ fifteen_of d → amount_of d ≡ 0
-none-zero (Number n) f = let z : ◌≡◌ {A = ℕ} 0 1 = cc in absurd (omega arith)
-none-zero (NonDigit i) f = refl
-none-zero TooLong f = refl
+-- an amount that is not said counts 0
+pub amount-or-zero : (d : Digits) → unwrap_or (fifteen_of d) 0 ≡ amount_of d
+amount-or-zero (Number n) = refl
+amount-or-zero (NonDigit i) = refl
+amount-or-zero TooLong = refl
 
 -- Where no amount is said, not all are digits.
 none-digits : (l : List ℕ) → Said.NonDigit ≡ fifteen_of (number_of l) → AllDigits l → ⊥

@@ -1,10 +1,10 @@
 -- `close::number_in` meets its contract: where no number is said, it counts 0.
-use mathlib.Core.Path.{◌≡◌, sym, ap, ◌∙◌}
+use mathlib.Core.Path.{◌≡◌, ap, ◌∙◌}
 use lib.ListN.{take, drop}
 use native.Mathlib.Omega.{arith}
 use Rattle.text.specs.Numbers.{number_of, amount_of}
 use Rattle.text.proofs.Bytes.{part_length}
-use Rattle.text.proofs.Numerals.{read-is-number}
+use Rattle.text.proofs.Numerals.{read-is-number, said-or-zero}
 use Rattle.close.proofs.number_in.Goals as goal
 use Rattle.close.proofs.number_in.Goals.{After-number}
 
@@ -12,11 +12,5 @@ use Rattle.close.proofs.number_in.Goals.{After-number}
 read : (c : After-number) → c.number.result ≡ number_of (take 7 (drop 3 c.args.rec.now))
 read c = c.number.ensures ∙ read-is-number _ (omega (arith, part_length 7 3 c.args.rec.now (omega (arith, c.requires))))
 
-pub returns-in-Number : goal.returns-in-Number
-returns-in-Number c = ap amount_of (sym c.in-Number.is ∙ read (goal.at.returns-in-Number c).After-number)
-
-pub returns-in-NonDigit : goal.returns-in-NonDigit
-returns-in-NonDigit c = ap amount_of (sym c.in-NonDigit.is ∙ read (goal.at.returns-in-NonDigit c).After-number)
-
-pub returns-in-TooLong : goal.returns-in-TooLong
-returns-in-TooLong c = ap amount_of (sym c.in-TooLong.is ∙ read (goal.at.returns-in-TooLong c).After-number)
+pub returns : goal.returns
+returns c = c.unwrap_or.ensures ∙ (said-or-zero c.number.result ∙ ap amount_of (read (goal.at.returns c).After-number))

@@ -4,7 +4,7 @@ use mathlib.Core.Path.{◌≡◌, sym, ap, ◌∙◌}
 use mathlib.Core.List.{List}
 use Prim.Native.Nat.{ℕ}
 use lib.ListN.{get_or}
-use Rattle.text.proofs.Numerals.{unread-zero}
+use Rattle.text.proofs.Numerals.{said-or-zero}
 use Rattle.text.specs.Answers.{Digits}
 use Rattle.text.specs.Numbers.{number_of, amount_of}
 use Rattle.layout.specs.declared.Field.{Field}
@@ -33,10 +33,5 @@ read c d e = e ∙ ap (λ (x : Field). number_of (bytes_of (rec c) x)) (field_is
 pub read_field-requires : goal.read_field-requires
 read_field-requires c = (c.requires, rw (field_is c) (first-within (kind c)))
 
-pub returns-in-Ok : goal.returns-in-Ok
-returns-in-Ok c = sym (ap amount_of (sym (read (goal.at.returns-in-Ok c).After-read_field-arg-1 _ c.read_field.ensures) ∙ c.in-Ok.is))
-
-pub returns-in-Err : goal.returns-in-Err
-returns-in-Err c =
-    let e = sym (read (goal.at.returns-in-Err c).After-read_field-arg-1 _ c.read_field.ensures) ∙ c.in-Err.is in
-    sym (ap amount_of e ∙ unread-zero c.in-Err.field-0)
+pub returns : goal.returns
+returns c = c.unwrap_or.ensures ∙ (said-or-zero c.read_field.result ∙ ap amount_of (read (goal.at.returns c).After-read_field-arg-1 _ c.read_field.ensures))
