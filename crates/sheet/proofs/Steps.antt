@@ -6,9 +6,7 @@ use mathlib.Core.List.{List, [], ◌∷◌}
 use native.Mathlib.Omega.{arith}
 use borrow.Author.Tests.{lt-ltb, le-ltb, ltb-false, eq-eqb, ne_eqb}
 use lib.Dec.{ltb, lit≤}
-use types.Run.{OneOf, miss}
-use denote.Enum.Declared.{tag_of}
-use Rattle.text.specs.contracts.Digits.{the_type}
+use Rattle.std.specs.Result.{IsErr}
 use lib.ListN.{length, take, drop, length-drop}
 use lib.Seq.{drop-drop, length-take-le}
 use Rattle.text.proofs.Numerals.{number-below}
@@ -33,8 +31,8 @@ counted-by w s R = go (ltb (length s) w)
     go true = refl
     go false = refl
 
-no-count : (q : Digits) → OneOf (1 ∷ 2 ∷ []) (tag_of the_type q) → (R : ℕ → Reading) → of_count q R ≡ NoSheet
-no-count (Number n) t R = absurd (miss (1 ∷ 2 ∷ []) 0 tt t)
+no-count : (q : Digits) → IsErr q → (R : ℕ → Reading) → of_count q R ≡ NoSheet
+no-count (Number n) t R = absurd (false≢true t)
 no-count (NonDigit i) t R = refl
 no-count TooLong t R = refl
 
@@ -56,7 +54,7 @@ module _ (sheet name : List ℕ) (a : Spot) (f : List ℕ) where
   counts w n R q x g e i y = rw (counted-by w (drop a.at sheet) R, ← e, i, drop-drop w a.at sheet) (follows-moved sheet name a w f (R n (drop (a.at + w) sheet)) x g y)
 
   -- Anything else is no sheet.
-  pub counts-none : (w : ℕ) (R : ℕ → List ℕ → Reading) (q : Digits) → q ≡ count_at w (drop a.at sheet) → OneOf (1 ∷ 2 ∷ []) (tag_of the_type q) → Follows sheet name a f (counted w (drop a.at sheet) R) Way.NoSheet f
+  pub counts-none : (w : ℕ) (R : ℕ → List ℕ → Reading) (q : Digits) → q ≡ count_at w (drop a.at sheet) → IsErr q → Follows sheet name a f (counted w (drop a.at sheet) R) Way.NoSheet f
   counts-none w R q e t = rw (counted-by w (drop a.at sheet) R, ← e, no-count q t (λ n. R n (drop w (drop a.at sheet)))) refl
 
 -- The lines that are left are the next one and those behind it.

@@ -43,57 +43,57 @@ behind-lines : (s : Start) (twenty : Spot) (f : List ℕ) (w : Walked) (lines : 
 behind-lines s twenty f w lines g b x e =
     going-then _ _ _ _ _ _ _ (sections_from s.args.d 5 0 (left s twenty)) (one_record Payment s.args.d) _ _ _ b x e
 
-pub returns-in_default : goal.returns-in_default
-returns-in_default c =
-    let s = (goal.at.returns-in_default c).Start in
-    going-stop _ _ _ _ _ _ _ (one_record Taxpayer s.args.d (left s s.args.spot)) (after_ten s.args.d) _ _ (opened s) c.«record».ensures c.in_default.is
+pub returns-in_err-ten : goal.returns-in_err-ten
+returns-in_err-ten c =
+    let s = (goal.at.returns-in_err-ten c).Start in
+    rw c.from_residual.ensures (going-stop _ _ _ _ _ _ _ (one_record Taxpayer s.args.d (left s s.args.spot)) (after_ten s.args.d) _ _ (opened s) c.«record».ensures c.in_err-ten.was)
 
 pub record-requires-2 : goal.record-requires-2
 record-requires-2 c =
     let s = (goal.at.record-requires-2 c).Start in
-    let ten = behind-ten s c.«record».result c.in-To.ten c.«record».new.flow c.«record».ensures c.in-To.is in
+    let ten = behind-ten s c.«record».result c.in_ok-ten.ten c.«record».new.flow c.«record».ensures c.in_ok-ten.was in
     (ten.here, s.requires.1)
 
-pub returns-in_default-record : goal.returns-in_default-record
-returns-in_default-record c =
-    let s = (goal.at.returns-in_default-record c).Start in
-    let ten = behind-ten s c.«record».result c.in-To.ten c.«record».new.flow c.«record».ensures c.in-To.is in
-    going-stop _ _ _ _ _ _ _ (one_record Domicile s.args.d (left s c.in-To.ten)) (after_twenty s.args.d) _ _ ten c.record-2.ensures c.in_default-record.is
+pub returns-in_err-twenty : goal.returns-in_err-twenty
+returns-in_err-twenty c =
+    let s = (goal.at.returns-in_err-twenty c).Start in
+    let ten = behind-ten s c.«record».result c.in_ok-ten.ten c.«record».new.flow c.«record».ensures c.in_ok-ten.was in
+    rw c.from_residual-in_err-twenty.ensures (going-stop _ _ _ _ _ _ _ (one_record Domicile s.args.d (left s c.in_ok-ten.ten)) (after_twenty s.args.d) _ _ ten c.record-2.ensures c.in_err-twenty.was)
 
 pub sections-requires : goal.sections-requires
 sections-requires c =
     let s = (goal.at.sections-requires c).Start in
-    let ten = behind-ten s c.«record».result c.in-To.ten c.«record».new.flow c.«record».ensures c.in-To.is in
-    let twenty = behind-twenty s c.in-To.ten c.«record».new.flow c.record-2.result c.in-To-record.twenty c.record-2.new.flow ten c.record-2.ensures c.in-To-record.is in
+    let ten = behind-ten s c.«record».result c.in_ok-ten.ten c.«record».new.flow c.«record».ensures c.in_ok-ten.was in
+    let twenty = behind-twenty s c.in_ok-ten.ten c.«record».new.flow c.record-2.result c.in_ok-twenty.twenty c.record-2.new.flow ten c.record-2.ensures c.in_ok-twenty.was in
     (twenty.here, s.requires.1)
 
-pub returns-in_default-sections : goal.returns-in_default-sections
-returns-in_default-sections c =
-    let s = (goal.at.returns-in_default-sections c).Start in
-    let ten = behind-ten s c.«record».result c.in-To.ten c.«record».new.flow c.«record».ensures c.in-To.is in
-    let twenty = behind-twenty s c.in-To.ten c.«record».new.flow c.record-2.result c.in-To-record.twenty c.record-2.new.flow ten c.record-2.ensures c.in-To-record.is in
-    going-stop _ _ _ _ _ _ _ (sections_from s.args.d 5 0 (left s c.in-To-record.twenty)) (one_record Payment s.args.d) _ _ twenty c.sections.ensures c.in_default-sections.is
+pub returns-in_err-lines : goal.returns-in_err-lines
+returns-in_err-lines c =
+    let s = (goal.at.returns-in_err-lines c).Start in
+    let ten = behind-ten s c.«record».result c.in_ok-ten.ten c.«record».new.flow c.«record».ensures c.in_ok-ten.was in
+    let twenty = behind-twenty s c.in_ok-ten.ten c.«record».new.flow c.record-2.result c.in_ok-twenty.twenty c.record-2.new.flow ten c.record-2.ensures c.in_ok-twenty.was in
+    rw c.from_residual-in_err-lines.ensures (going-stop _ _ _ _ _ _ _ (sections_from s.args.d 5 0 (left s c.in_ok-twenty.twenty)) (one_record Payment s.args.d) _ _ twenty c.sections.ensures c.in_err-lines.was)
 
 pub record-requires-3 : goal.record-requires-3
 record-requires-3 c =
     let s = (goal.at.record-requires-3 c).Start in
-    let ten = behind-ten s c.«record».result c.in-To.ten c.«record».new.flow c.«record».ensures c.in-To.is in
-    let twenty = behind-twenty s c.in-To.ten c.«record».new.flow c.record-2.result c.in-To-record.twenty c.record-2.new.flow ten c.record-2.ensures c.in-To-record.is in
-    let lines = behind-lines s c.in-To-record.twenty c.record-2.new.flow c.sections.result c.in-To-sections.lines c.sections.new.flow twenty c.sections.ensures c.in-To-sections.is in
+    let ten = behind-ten s c.«record».result c.in_ok-ten.ten c.«record».new.flow c.«record».ensures c.in_ok-ten.was in
+    let twenty = behind-twenty s c.in_ok-ten.ten c.«record».new.flow c.record-2.result c.in_ok-twenty.twenty c.record-2.new.flow ten c.record-2.ensures c.in_ok-twenty.was in
+    let lines = behind-lines s c.in_ok-twenty.twenty c.record-2.new.flow c.sections.result c.in_ok-lines.lines c.sections.new.flow twenty c.sections.ensures c.in_ok-lines.was in
     (lines.here, s.requires.1)
 
 pub shape_of-flow : goal.shape_of-flow
 shape_of-flow c =
     let s = (goal.at.shape_of-flow c).Start in
-    let ten = behind-ten s c.«record».result c.in-To.ten c.«record».new.flow c.«record».ensures c.in-To.is in
-    let twenty = behind-twenty s c.in-To.ten c.«record».new.flow c.record-2.result c.in-To-record.twenty c.record-2.new.flow ten c.record-2.ensures c.in-To-record.is in
-    let lines = behind-lines s c.in-To-record.twenty c.record-2.new.flow c.sections.result c.in-To-sections.lines c.sections.new.flow twenty c.sections.ensures c.in-To-sections.is in
-    going-room _ _ _ _ _ _ _ (one_record Payment s.args.d (left s c.in-To-sections.lines)) _ _ lines c.record-3.ensures
+    let ten = behind-ten s c.«record».result c.in_ok-ten.ten c.«record».new.flow c.«record».ensures c.in_ok-ten.was in
+    let twenty = behind-twenty s c.in_ok-ten.ten c.«record».new.flow c.record-2.result c.in_ok-twenty.twenty c.record-2.new.flow ten c.record-2.ensures c.in_ok-twenty.was in
+    let lines = behind-lines s c.in_ok-twenty.twenty c.record-2.new.flow c.sections.result c.in_ok-lines.lines c.sections.new.flow twenty c.sections.ensures c.in_ok-lines.was in
+    going-room _ _ _ _ _ _ _ (one_record Payment s.args.d (left s c.in_ok-lines.lines)) _ _ lines c.record-3.ensures
 
 pub returns : goal.returns
 returns c =
     let s = (goal.at.returns c).Start in
-    let ten = behind-ten s c.«record».result c.in-To.ten c.«record».new.flow c.«record».ensures c.in-To.is in
-    let twenty = behind-twenty s c.in-To.ten c.«record».new.flow c.record-2.result c.in-To-record.twenty c.record-2.new.flow ten c.record-2.ensures c.in-To-record.is in
-    let lines = behind-lines s c.in-To-record.twenty c.record-2.new.flow c.sections.result c.in-To-sections.lines c.sections.new.flow twenty c.sections.ensures c.in-To-sections.is in
+    let ten = behind-ten s c.«record».result c.in_ok-ten.ten c.«record».new.flow c.«record».ensures c.in_ok-ten.was in
+    let twenty = behind-twenty s c.in_ok-ten.ten c.«record».new.flow c.record-2.result c.in_ok-twenty.twenty c.record-2.new.flow ten c.record-2.ensures c.in_ok-twenty.was in
+    let lines = behind-lines s c.in_ok-twenty.twenty c.record-2.new.flow c.sections.result c.in_ok-lines.lines c.sections.new.flow twenty c.sections.ensures c.in_ok-lines.was in
     lines.leads _ _ c.record-3.ensures

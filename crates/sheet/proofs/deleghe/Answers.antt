@@ -23,15 +23,15 @@ behind c = deleghe_from (c.args.n - (c.loop-d.d + 1)) (c.loop-d.d + 1 + 1)
 opened : (c : After-delega) → Goes c c.loop-d.here c.loop-d.flow (and_then (next c) (behind c))
 opened c = going-by _ _ _ _ _ _ _ _ _ (deleghe-on c.args.n c.loop-d.d (drop c.loop-d.here.at c.args.source.sheet.now) c.loop-d-test.true) c.loop-d.invariant
 
-pub returns-in_default : goal.returns-in_default
-returns-in_default c =
-    let q = (goal.at.returns-in_default c).After-delega in
-    going-stop _ _ _ _ _ _ _ (next q) (behind q) _ _ (opened q) q.delega.ensures c.in_default.is
+pub returns-in_err-here : goal.returns-in_err-here
+returns-in_err-here c =
+    let q = (goal.at.returns-in_err-here c).After-delega in
+    rw c.from_residual.ensures (going-stop _ _ _ _ _ _ _ (next q) (behind q) _ _ (opened q) q.delega.ensures c.in_err-here.was)
 
 pub loop-d-preserved : goal.loop-d-preserved
 loop-d-preserved c =
     let q = (goal.at.loop-d-preserved c).After-delega in
-    going-then _ _ _ _ _ _ _ (next q) (behind q) _ _ _ (opened q) q.delega.ensures c.in-To.is
+    going-then _ _ _ _ _ _ _ (next q) (behind q) _ _ _ (opened q) q.delega.ensures c.in_ok-here.was
 
 pub returns : goal.returns
 returns c =

@@ -24,15 +24,15 @@ behind c = lines_from c.args.x c.args.d (c.args.n - (c.loop.counter + 1))
 opened : (c : After-record) → Goes c c.loop.here c.loop.flow (and_then (next c) (behind c))
 opened c = going-by _ _ _ _ _ _ _ _ _ (lines-on c.args.x c.args.d c.args.n c.loop.counter (drop c.loop.here.at c.args.source.sheet.now) c.loop-test.true) c.loop.invariant
 
-pub returns-in_default : goal.returns-in_default
-returns-in_default c =
-    let q = (goal.at.returns-in_default c).After-record in
-    going-stop _ _ _ _ _ _ _ (next q) (behind q) _ _ (opened q) q.record.ensures c.in_default.is
+pub returns-in_err-here : goal.returns-in_err-here
+returns-in_err-here c =
+    let q = (goal.at.returns-in_err-here c).After-record in
+    rw c.from_residual.ensures (going-stop _ _ _ _ _ _ _ (next q) (behind q) _ _ (opened q) q.record.ensures c.in_err-here.was)
 
 pub loop-preserved : goal.loop-preserved
 loop-preserved c =
     let q = (goal.at.loop-preserved c).After-record in
-    going-then _ _ _ _ _ _ _ (next q) (behind q) _ _ _ (opened q) q.record.ensures c.in-To.is
+    going-then _ _ _ _ _ _ _ (next q) (behind q) _ _ _ (opened q) q.record.ensures c.in_ok-here.was
 
 pub returns : goal.returns
 returns c =

@@ -6,7 +6,7 @@ pub returns-in_default : goal.returns-in_default
 returns-in_default c = rw (← c.slot_fault.ensures, c.in_default.is)
 
 pub returns-then-so_far-eq0 : goal.returns-then-so_far-eq0
-returns-then-so_far-eq0 c = rw (← c.slot_fault.ensures, c.in-Fault.is, eq-eqb _ _ c.if-so_far-eq0.true)
+returns-then-so_far-eq0 c = rw (← c.slot_fault.ensures, c.in-Err.is, eq-eqb _ _ c.if-so_far-eq0.true)
 
 pub returns : goal.returns
-returns c = rw (← c.slot_fault.ensures, c.in-Fault.is, ne_eqb _ _ c.if-so_far-eq0.false)
+returns c = rw (← c.slot_fault.ensures, c.in-Err.is, ne_eqb _ _ c.if-so_far-eq0.false)

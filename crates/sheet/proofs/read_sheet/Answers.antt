@@ -60,65 +60,65 @@ record-requires c =
     let s = (goal.at.record-requires c).Start in
     (here-start _ _ _ s.requires c.start.ensures, lit≤ tt)
 
-pub returns-in_default : goal.returns-in_default
-returns-in_default c =
-    let s = (goal.at.returns-in_default c).Start in
-    going-stop _ _ _ _ _ _ _ (one_record Head 0 s.args.sheet.now) after_head _ _ (opened s) (rw c.start.ensures at c.«record».ensures) c.in_default.is
+pub returns-in_err-head : goal.returns-in_err-head
+returns-in_err-head c =
+    let s = (goal.at.returns-in_err-head c).Start in
+    rw c.from_residual.ensures (going-stop _ _ _ _ _ _ _ (one_record Head 0 s.args.sheet.now) after_head _ _ (opened s) (rw c.start.ensures at c.«record».ensures) c.in_err-head.was)
 
 pub counted_deleghe-requires : goal.counted_deleghe-requires
 counted_deleghe-requires c =
     let s = (goal.at.counted_deleghe-requires c).Start in
-    let head = behind-head s c.«record».result c.in-To.head c.«record».new.flow (rw c.start.ensures at c.«record».ensures) c.in-To.is in
+    let head = behind-head s c.«record».result c.in_ok-head.head c.«record».new.flow (rw c.start.ensures at c.«record».ensures) c.in_ok-head.was in
     head.here
 
-pub returns-in_default-counted_deleghe : goal.returns-in_default-counted_deleghe
-returns-in_default-counted_deleghe c =
-    let s = (goal.at.returns-in_default-counted_deleghe c).Start in
-    let head = behind-head s c.«record».result c.in-To.head c.«record».new.flow (rw c.start.ensures at c.«record».ensures) c.in-To.is in
-    going-stop _ _ _ _ _ _ _ (counted 3 (left s c.in-To.head) from_one) after_deleghe _ _ head c.counted_deleghe.ensures c.in_default-counted_deleghe.is
+pub returns-in_err-all : goal.returns-in_err-all
+returns-in_err-all c =
+    let s = (goal.at.returns-in_err-all c).Start in
+    let head = behind-head s c.«record».result c.in_ok-head.head c.«record».new.flow (rw c.start.ensures at c.«record».ensures) c.in_ok-head.was in
+    rw c.from_residual-in_err-all.ensures (going-stop _ _ _ _ _ _ _ (counted 3 (left s c.in_ok-head.head) from_one) after_deleghe _ _ head c.counted_deleghe.ensures c.in_err-all.was)
 
 pub record-requires-2 : goal.record-requires-2
 record-requires-2 c =
     let s = (goal.at.record-requires-2 c).Start in
-    let head = behind-head s c.«record».result c.in-To.head c.«record».new.flow (rw c.start.ensures at c.«record».ensures) c.in-To.is in
-    let all = behind-all s c.in-To.head c.«record».new.flow c.counted_deleghe.result c.in-To-counted_deleghe.all c.counted_deleghe.new.flow head c.counted_deleghe.ensures c.in-To-counted_deleghe.is in
+    let head = behind-head s c.«record».result c.in_ok-head.head c.«record».new.flow (rw c.start.ensures at c.«record».ensures) c.in_ok-head.was in
+    let all = behind-all s c.in_ok-head.head c.«record».new.flow c.counted_deleghe.result c.in_ok-all.all c.counted_deleghe.new.flow head c.counted_deleghe.ensures c.in_ok-all.was in
     (all.here, lit≤ tt)
 
-pub returns-in_default-record : goal.returns-in_default-record
-returns-in_default-record c =
-    let s = (goal.at.returns-in_default-record c).Start in
-    let head = behind-head s c.«record».result c.in-To.head c.«record».new.flow (rw c.start.ensures at c.«record».ensures) c.in-To.is in
-    let all = behind-all s c.in-To.head c.«record».new.flow c.counted_deleghe.result c.in-To-counted_deleghe.all c.counted_deleghe.new.flow head c.counted_deleghe.ensures c.in-To-counted_deleghe.is in
-    going-stop _ _ _ _ _ _ _ (one_record Tail 0 (left s c.in-To-counted_deleghe.all)) at_end _ _ all c.record-2.ensures c.in_default-record.is
+pub returns-in_err-end : goal.returns-in_err-end
+returns-in_err-end c =
+    let s = (goal.at.returns-in_err-end c).Start in
+    let head = behind-head s c.«record».result c.in_ok-head.head c.«record».new.flow (rw c.start.ensures at c.«record».ensures) c.in_ok-head.was in
+    let all = behind-all s c.in_ok-head.head c.«record».new.flow c.counted_deleghe.result c.in_ok-all.all c.counted_deleghe.new.flow head c.counted_deleghe.ensures c.in_ok-all.was in
+    rw c.from_residual-in_err-end.ensures (going-stop _ _ _ _ _ _ _ (one_record Tail 0 (left s c.in_ok-all.all)) at_end _ _ all c.record-2.ensures c.in_err-end.was)
 
 pub shape_of-flow-then-end-sheet : goal.shape_of-flow-then-end-sheet
 shape_of-flow-then-end-sheet c =
     let s = (goal.at.shape_of-flow-then-end-sheet c).Start in
-    let head = behind-head s c.«record».result c.in-To.head c.«record».new.flow (rw c.start.ensures at c.«record».ensures) c.in-To.is in
-    let all = behind-all s c.in-To.head c.«record».new.flow c.counted_deleghe.result c.in-To-counted_deleghe.all c.counted_deleghe.new.flow head c.counted_deleghe.ensures c.in-To-counted_deleghe.is in
-    let end = behind-end s c.in-To-counted_deleghe.all c.counted_deleghe.new.flow c.record-2.result c.in-To-record.end c.record-2.new.flow all c.record-2.ensures c.in-To-record.is in
+    let head = behind-head s c.«record».result c.in_ok-head.head c.«record».new.flow (rw c.start.ensures at c.«record».ensures) c.in_ok-head.was in
+    let all = behind-all s c.in_ok-head.head c.«record».new.flow c.counted_deleghe.result c.in_ok-all.all c.counted_deleghe.new.flow head c.counted_deleghe.ensures c.in_ok-all.was in
+    let end = behind-end s c.in_ok-all.all c.counted_deleghe.new.flow c.record-2.result c.in_ok-end.end c.record-2.new.flow all c.record-2.ensures c.in_ok-end.was in
     end.here.room ∙ sym s.requires
 
 pub returns-then-end-sheet : goal.returns-then-end-sheet
 returns-then-end-sheet c =
     let s = (goal.at.returns-then-end-sheet c).Start in
-    let head = behind-head s c.«record».result c.in-To.head c.«record».new.flow (rw c.start.ensures at c.«record».ensures) c.in-To.is in
-    let all = behind-all s c.in-To.head c.«record».new.flow c.counted_deleghe.result c.in-To-counted_deleghe.all c.counted_deleghe.new.flow head c.counted_deleghe.ensures c.in-To-counted_deleghe.is in
-    let end = behind-end s c.in-To-counted_deleghe.all c.counted_deleghe.new.flow c.record-2.result c.in-To-record.end c.record-2.new.flow all c.record-2.ensures c.in-To-record.is in
+    let head = behind-head s c.«record».result c.in_ok-head.head c.«record».new.flow (rw c.start.ensures at c.«record».ensures) c.in_ok-head.was in
+    let all = behind-all s c.in_ok-head.head c.«record».new.flow c.counted_deleghe.result c.in_ok-all.all c.counted_deleghe.new.flow head c.counted_deleghe.ensures c.in_ok-all.was in
+    let end = behind-end s c.in_ok-all.all c.counted_deleghe.new.flow c.record-2.result c.in_ok-end.end c.record-2.new.flow all c.record-2.ensures c.in_ok-end.was in
     sheet-ends _ _ _ _ _ _ _ end c.if-end-sheet.true
 
 pub shape_of-flow : goal.shape_of-flow
 shape_of-flow c =
     let s = (goal.at.shape_of-flow c).Start in
-    let head = behind-head s c.«record».result c.in-To.head c.«record».new.flow (rw c.start.ensures at c.«record».ensures) c.in-To.is in
-    let all = behind-all s c.in-To.head c.«record».new.flow c.counted_deleghe.result c.in-To-counted_deleghe.all c.counted_deleghe.new.flow head c.counted_deleghe.ensures c.in-To-counted_deleghe.is in
-    let end = behind-end s c.in-To-counted_deleghe.all c.counted_deleghe.new.flow c.record-2.result c.in-To-record.end c.record-2.new.flow all c.record-2.ensures c.in-To-record.is in
+    let head = behind-head s c.«record».result c.in_ok-head.head c.«record».new.flow (rw c.start.ensures at c.«record».ensures) c.in_ok-head.was in
+    let all = behind-all s c.in_ok-head.head c.«record».new.flow c.counted_deleghe.result c.in_ok-all.all c.counted_deleghe.new.flow head c.counted_deleghe.ensures c.in_ok-all.was in
+    let end = behind-end s c.in_ok-all.all c.counted_deleghe.new.flow c.record-2.result c.in_ok-end.end c.record-2.new.flow all c.record-2.ensures c.in_ok-end.was in
     end.here.room ∙ sym s.requires
 
 pub returns : goal.returns
 returns c =
     let s = (goal.at.returns c).Start in
-    let head = behind-head s c.«record».result c.in-To.head c.«record».new.flow (rw c.start.ensures at c.«record».ensures) c.in-To.is in
-    let all = behind-all s c.in-To.head c.«record».new.flow c.counted_deleghe.result c.in-To-counted_deleghe.all c.counted_deleghe.new.flow head c.counted_deleghe.ensures c.in-To-counted_deleghe.is in
-    let end = behind-end s c.in-To-counted_deleghe.all c.counted_deleghe.new.flow c.record-2.result c.in-To-record.end c.record-2.new.flow all c.record-2.ensures c.in-To-record.is in
+    let head = behind-head s c.«record».result c.in_ok-head.head c.«record».new.flow (rw c.start.ensures at c.«record».ensures) c.in_ok-head.was in
+    let all = behind-all s c.in_ok-head.head c.«record».new.flow c.counted_deleghe.result c.in_ok-all.all c.counted_deleghe.new.flow head c.counted_deleghe.ensures c.in_ok-all.was in
+    let end = behind-end s c.in_ok-all.all c.counted_deleghe.new.flow c.record-2.result c.in_ok-end.end c.record-2.new.flow all c.record-2.ensures c.in_ok-end.was in
     sheet-goes-on _ _ _ _ _ _ _ end c.if-end-sheet.false

@@ -23,15 +23,15 @@ behind c = sections_from c.args.d (5 - (c.loop-x.x + 1)) (c.loop-x.x + 1)
 opened : (c : After-section) → Goes c c.loop-x.here c.loop-x.flow (and_then (next c) (behind c))
 opened c = going-by _ _ _ _ _ _ _ _ _ (sections-on c.args.d 5 c.loop-x.x (drop c.loop-x.here.at c.args.source.sheet.now) c.loop-x-test.true) c.loop-x.invariant
 
-pub returns-in_default : goal.returns-in_default
-returns-in_default c =
-    let q = (goal.at.returns-in_default c).After-section in
-    going-stop _ _ _ _ _ _ _ (next q) (behind q) _ _ (opened q) q.section.ensures c.in_default.is
+pub returns-in_err-here : goal.returns-in_err-here
+returns-in_err-here c =
+    let q = (goal.at.returns-in_err-here c).After-section in
+    rw c.from_residual.ensures (going-stop _ _ _ _ _ _ _ (next q) (behind q) _ _ (opened q) q.section.ensures c.in_err-here.was)
 
 pub loop-x-preserved : goal.loop-x-preserved
 loop-x-preserved c =
     let q = (goal.at.loop-x-preserved c).After-section in
-    going-then _ _ _ _ _ _ _ (next q) (behind q) _ _ _ (opened q) q.section.ensures c.in-To.is
+    going-then _ _ _ _ _ _ _ (next q) (behind q) _ _ _ (opened q) q.section.ensures c.in_ok-here.was
 
 pub returns : goal.returns
 returns c =
