@@ -3,7 +3,7 @@
 use mathlib.Core.Path.{refl, sym, ap, ◌∙◌}
 use native.Mathlib.Omega.{arith}
 use Rattle.correct.specs.Correction.{refusal_made}
-use Rattle.kept.specs.declared.CorrectionKept.{CorrectionKept}
+use Rattle.kept.specs.Answers.{CorrectionKept}
 use Rattle.kept.specs.Keeping.{correction_kept}
 use Rattle.kept.proofs.Answered.{correction-number}
 use Rattle.f24.specs.LinkedKept.{correct_kept_code, correct_kept_flow, correct_kept_record, correct_kept_answer}

@@ -3,7 +3,7 @@
 use mathlib.Core.Path.{refl, sym, ap, ◌∙◌}
 use native.Mathlib.Omega.{arith}
 use Rattle.dropping.specs.Dropping.{refusal_dropped}
-use Rattle.kept.specs.declared.DroppingKept.{DroppingKept}
+use Rattle.kept.specs.Answers.{DroppingKept}
 use Rattle.kept.specs.Keeping.{dropping_kept}
 use Rattle.kept.proofs.Answered.{dropping-number}
 use Rattle.f24.specs.LinkedKept.{drop_kept_code, drop_kept_flow, drop_kept_record, drop_kept_answer}

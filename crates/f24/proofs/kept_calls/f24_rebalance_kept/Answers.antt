@@ -3,7 +3,7 @@
 use mathlib.Core.Path.{refl, sym, ap, ◌∙◌}
 use native.Mathlib.Omega.{arith}
 use Rattle.mend.specs.Mending.{refusal_mended}
-use Rattle.kept.specs.declared.MendingKept.{MendingKept}
+use Rattle.kept.specs.Answers.{MendingKept}
 use Rattle.kept.specs.Keeping.{mending_kept}
 use Rattle.kept.proofs.Answered.{mending-number}
 use Rattle.f24.specs.LinkedKept.{rebalance_kept_code, rebalance_kept_flow, rebalance_kept_list, rebalance_kept_record, rebalance_kept_answer}
