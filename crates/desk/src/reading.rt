@@ -97,6 +97,7 @@ pub fn fill<R: Read>(reader: &mut R, room: &mut [u8]) -> (usize, io::Result<()>)
     ensures { result.0 ≤ length room.old }
 {
     let mut done: usize = 0;
+    // Kept: a read moves the count by as much as the system gave; a `for` would count reads, and need this test too.
     while done < room.len() {
         match reader.read(&mut room[done..]) {
             Ok(0) => return (done, Ok(())),

@@ -144,12 +144,7 @@ fn rebalance_flow(rt: &HostRuntime, flow: &mut [u8], list: &mut [u64], kept: Kep
 }
 
 // Rebalances a flow with a list of so many numbers, if a list can be so long.
-fn rebalance_with(
-    rt: &HostRuntime,
-    flow: &mut [u8],
-    size: usize,
-    kept: KeptSums,
-) -> Option<Left>
+fn rebalance_with(rt: &HostRuntime, flow: &mut [u8], size: usize, kept: KeptSums) -> Option<Left>
     ensures { IfSome result (λ left. left.length ≤ length flow.old) }
 {
     if MOST_LIST < size {
@@ -260,13 +255,7 @@ fn lent_record(text: &[u8], last: KeptSums) -> KeptSums {
 }
 
 // Makes a step with the numbers that stand below its line.
-fn make(
-    rt: &HostRuntime,
-    step: Step,
-    flow: &mut [u8],
-    text: &[u8],
-    last: KeptSums,
-) -> Option<Left>
+fn make(rt: &HostRuntime, step: Step, flow: &mut [u8], text: &[u8], last: KeptSums) -> Option<Left>
     requires { 232 ≤ length text.now }
     ensures { IfSome result (λ left. left.length ≤ length flow.old) }
 {
@@ -308,12 +297,7 @@ fn step_on(
 }
 
 // One step on a flow, after one that handed back a record.
-fn one_step(
-    rt: &HostRuntime,
-    cases: &mut File,
-    flow: &mut [u8],
-    last: KeptSums,
-) -> Option<Left>
+fn one_step(rt: &HostRuntime, cases: &mut File, flow: &mut [u8], last: KeptSums) -> Option<Left>
     ensures { IfSome result (λ left. left.length ≤ length flow.old) }
 {
     let n = flow.len();
