@@ -1,27 +1,26 @@
 -- Laws of the rows of a V: what one row says, over the row's number; and the rows so far and one row more.
 use Prim.Native.Nat.{ℕ, zero, suc, ◌+◌, ◌-◌, ◌*◌, ◌<◌, ◌≤◌}
 use mathlib.Core.Path.{◌≡◌, refl, sym, ap, ◌∙◌}
-use mathlib.Core.Bool.{Bool, true, false, cond}
-use mathlib.Core.List.{List, [], ◌∷◌}
-use mathlib.Core.Logic.{⊎_elim}
+use mathlib.Core.Bool.{Bool, true, false, cond, false≢true}
+use mathlib.Core.List.{List}
 use native.Mathlib.Omega.{arith}
 use native.Mathlib.Numerals.{add-one}
 use native.Mathlib.Decide.{dec_le}
 use borrow.Author.Tests.{eq-eqb, ne_eqb}
-use types.Run.{OneOf}
-use denote.Enum.Declared.{tag_of}
 use lib.Dec.{eqb}
 use lib.ListN.{length, take, drop}
+use Rattle.std.specs.Prelude.{Err}
+use Rattle.std.specs.Result.{IsErr}
 use Rattle.text.specs.Answers.{Digits, Number, NonDigit, TooLong}
 use Rattle.text.specs.Numbers.{number_of, amount_of, read_number}
 use Rattle.text.proofs.Bytes.{part_length}
-use Rattle.text.specs.contracts.Digits.{the_type}
 use Rattle.text.proofs.Numerals.{read-is-number, number-below}
 use Rattle.text.proofs.Tests.{either_way}
+use Rattle.ep_accounts.specs.declared.AccountsError.{AccountsError}
+use Rattle.ep_accounts.specs.declared.AccountsError.TheVariants as Why
 use Rattle.ep_accounts.specs.Answers.{Accounts, Sum, Unequal}
 use Rattle.ep_accounts.specs.Answers as Faulty
 use Rattle.ep_accounts.specs.Accounts.{row_count, blank, row_start, type_in, debit_field, debit_of, is_number, digits_to, debits_to, debits_in, balance_in, balanced, against_balance, accounts_in}
-use Rattle.ep_accounts.specs.contracts.Accounts.{the_type as accounts-type}
 
 module _ (r : List ℕ) (l : length r ≡ 1900) where
   -- Fifteen characters of a record, read.
@@ -47,8 +46,8 @@ module _ (r : List ℕ) (l : length r ≡ 1900) where
     row_below = either_way (λ (d : Digits). amount_of d < 1000000000000000) (eqb (type_in r k) blank) (Number 0) (number_of (debit_field r k)) (omega arith) (number-below 15 (debit_field r k) (part_length 15 (row_start k + 41) r (omega arith)))
 
 -- Digits that are no number.
-pub no_number : (d : Digits) → OneOf (1 ∷ 2 ∷ []) (tag_of the_type d) → is_number d ≡ false
-no_number (Number v) t = absurd (⊎_elim (λ e. omega arith) (λ e. omega arith) t)
+pub no_number : (d : Digits) → IsErr d → is_number d ≡ false
+no_number (Number v) t = absurd (false≢true t)
 no_number (NonDigit i) t = refl
 no_number TooLong t = refl
 
@@ -79,7 +78,7 @@ module _ (r : List ℕ) where
   debits-all k s e d f = sym (rw (rw e at d) (ap Sum (sym (rw e at f))))
 
   module _ (k : ℕ) (d : Digits) (e : d ≡ debit_of r k) where
-    pub debits-spoilt : k < row_count → OneOf (1 ∷ 2 ∷ []) (tag_of the_type d) → Faulty.NonDigit ≡ debits_in r
+    pub debits-spoilt : k < row_count → IsErr d → Faulty.NonDigit ≡ debits_in r
     unfolding debits_in
     debits-spoilt h t =
         let f : digits_to row_count r ≡ false = digits-spoilt row_count k h (ap is_number (sym e) ∙ no_number d t) in
@@ -105,28 +104,27 @@ module _ (r : List ℕ) where
             omega (arith, f, debits-below l k (omega arith), rw says at b)
 
 -- Debits that say no sum stay what they are against any balance.
-pub no-sum : (a : Accounts) → OneOf (1 ∷ 2 ∷ []) (tag_of accounts-type a) → (b : Digits) → against_balance a b ≡ a
-no-sum (Sum s) t b = absurd (⊎_elim (λ e. omega arith) (λ e. omega arith) t)
-no-sum Faulty.NonDigit t b = refl
-no-sum Unequal t b = refl
+pub no-sum : (w : AccountsError) (b : Digits) → against_balance (Err w) b ≡ Err w
+no-sum Why.NonDigit b = refl
+no-sum Why.Unequal b = refl
 
 -- A balance that is no number spoils every sum.
-pub no-balance : (s : ℕ) (b : Digits) → OneOf (1 ∷ 2 ∷ []) (tag_of the_type b) → balanced s b ≡ Faulty.NonDigit
-no-balance s (Number v) t = absurd (⊎_elim (λ e. omega arith) (λ e. omega arith) t)
+pub no-balance : (s : ℕ) (b : Digits) → IsErr b → balanced s b ≡ Faulty.NonDigit
+no-balance s (Number v) t = absurd (false≢true t)
 no-balance s (NonDigit i) t = refl
 no-balance s TooLong t = refl
 
 module _ (r : List ℕ) (d : Accounts) (e : d ≡ debits_in r) where
-  pub accounts-spoilt : OneOf (1 ∷ 2 ∷ []) (tag_of accounts-type d) → d ≡ accounts_in r
+  pub accounts-spoilt : (w : AccountsError) → d ≡ Err w → Err w ≡ accounts_in r
   unfolding accounts_in
-  accounts-spoilt t = sym (ap (λ (a : Accounts). against_balance a (balance_in r)) (sym e) ∙ no-sum d t (balance_in r))
+  accounts-spoilt w f = sym (ap (λ (a : Accounts). against_balance a (balance_in r)) (sym e ∙ f) ∙ no-sum w (balance_in r))
 
   module _ (s : ℕ) (is : d ≡ Sum s) (b : Digits) (f : b ≡ balance_in r) where
     against : accounts_in r ≡ balanced s b
     unfolding accounts_in
     against = ap (λ (a : Accounts). against_balance a (balance_in r)) (sym e ∙ is) ∙ ap (balanced s) (sym f)
 
-    pub balance-spoilt : OneOf (1 ∷ 2 ∷ []) (tag_of the_type b) → Faulty.NonDigit ≡ accounts_in r
+    pub balance-spoilt : IsErr b → Faulty.NonDigit ≡ accounts_in r
     balance-spoilt t = sym (against ∙ no-balance s b t)
 
     module _ (v : ℕ) (isv : b ≡ Number v) where

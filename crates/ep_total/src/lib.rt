@@ -12,13 +12,6 @@ const TOTAL: usize = 15;
 // The room in which the text of every number fits.
 const ROOM: usize = 40;
 
-// What the text of a total says.
-#[derive(Clone, Copy)]
-pub enum Total {
-    Cents(u64),
-    NoTotal,
-}
-
 // A dot and the three digits behind it.
 fn put_group(room: &mut [u8], at: usize, n: u64) -> usize
     requires { (at + 4 ≤ length room.old) × (n < 1000) }
@@ -103,18 +96,18 @@ fn digits_in(part: &[u8]) -> u64
 }
 
 // What a text of fifteen characters says: the number whose text it is. Any other text says none.
-pub fn read_total(part: &[u8]) -> Total
+pub fn read_total(part: &[u8]) -> Option<u64>
     ensures { result ≡ total_of part.now }
 {
     if part.len() != TOTAL {
-        return Total::NoTotal;
+        return None;
     }
     let n = digits_in(part);
     let mut room = [b' '; ROOM];
     let end = put_total(&mut room, n);
     if end <= TOTAL && part == &room[..TOTAL] {
-        Total::Cents(n)
+        Some(n)
     } else {
-        Total::NoTotal
+        None
     }
 }

@@ -20,25 +20,25 @@ pub returns-then-not-is_ascii_digit : goal.returns-then-not-is_ascii_digit
 returns-then-not-is_ascii_digit c =
     sym (c.loop-b.invariant.1 ∙ read-other _ _ c.loop-b-test.true _ (rw c.if-not-is_ascii_digit.true at c.is_ascii_digit.ensures.cases))
 
-pub returns-in_default : goal.returns-in_default
-returns-in_default c =
+pub returns-in_err-tens : goal.returns-in_err-tens
+returns-in_err-tens c =
     let d = rw c.if-not-is_ascii_digit.false at c.is_ascii_digit.ensures.cases in
-    let h : (c.loop-b.n * 10 < 2 ^ 64 → ⊥) = c.in_default.ensures in
-    sym (c.loop-b.invariant.1 ∙ read-large _ _ c.loop-b-test.true _ d.0 d.1 (omega arith))
+    let h : (c.loop-b.n * 10 < 2 ^ 64 → ⊥) = rw c.in_err-tens.was at c.checked_mul.ensures in
+    rw c.from_residual.ensures (sym (c.loop-b.invariant.1 ∙ read-large _ _ c.loop-b-test.true _ d.0 d.1 (omega arith)))
 
-pub returns-in_default-checked_add : goal.returns-in_default-checked_add
-returns-in_default-checked_add c =
+pub returns-in_err-n : goal.returns-in_err-n
+returns-in_err-n c =
     let d = rw c.if-not-is_ascii_digit.false at c.is_ascii_digit.ensures.cases in
-    let m : (c.loop-b.n * 10 < 2 ^ 64) × (c.in-Some.tens ≡ c.loop-b.n * 10) = c.in-Some.ensures in
-    let h : (c.in-Some.tens + c.from.result < 2 ^ 64 → ⊥) = c.in_default-checked_add.ensures in
-    sym (c.loop-b.invariant.1 ∙ read-large _ _ c.loop-b-test.true _ d.0 d.1 (omega arith))
+    let m : (c.loop-b.n * 10 < 2 ^ 64) × (c.in_ok-tens.tens ≡ c.loop-b.n * 10) = rw c.in_ok-tens.was at c.checked_mul.ensures in
+    let h : (c.in_ok-tens.tens + c.from.result < 2 ^ 64 → ⊥) = rw c.in_err-n.was at c.checked_add.ensures in
+    rw c.from_residual-in_err-n.ensures (sym (c.loop-b.invariant.1 ∙ read-large _ _ c.loop-b-test.true _ d.0 d.1 (omega arith)))
 
 pub loop-b-preserved : goal.loop-b-preserved
 loop-b-preserved c =
     let d = rw c.if-not-is_ascii_digit.false at c.is_ascii_digit.ensures.cases in
-    let m : (c.loop-b.n * 10 < 2 ^ 64) × (c.in-Some.tens ≡ c.loop-b.n * 10) = c.in-Some.ensures in
-    let s : (c.in-Some.tens + c.from.result < 2 ^ 64) × (c.in-Some-checked_add.more ≡ c.in-Some.tens + c.from.result) = c.in-Some-checked_add.ensures in
-    let e : c.loop-b.n * 10 + (get_or c.args.word.now c.loop-b.b-index 0 - 48) ≡ c.in-Some-checked_add.more = omega arith in
+    let m : (c.loop-b.n * 10 < 2 ^ 64) × (c.in_ok-tens.tens ≡ c.loop-b.n * 10) = rw c.in_ok-tens.was at c.checked_mul.ensures in
+    let s : (c.in_ok-tens.tens + c.from.result < 2 ^ 64) × (c.in_ok-n.n ≡ c.in_ok-tens.tens + c.from.result) = rw c.in_ok-n.was at c.checked_add.ensures in
+    let e : c.loop-b.n * 10 + (get_or c.args.word.now c.loop-b.b-index 0 - 48) ≡ c.in_ok-n.n = omega arith in
     (omega arith, c.loop-b.invariant.1 ∙ (read-on _ _ c.loop-b-test.true _ d.0 d.1 ∙ rw e))
 
 pub returns : goal.returns
