@@ -9,7 +9,7 @@ use lib.ListN.{length}
 use Rattle.dropping.specs.Answers.{Dropped}
 use Rattle.dropping.proofs.Dropped.{dropped-room}
 use Rattle.sums.specs.declared.KeptSums.{KeptSums}
-use Rattle.kept.specs.declared.DroppingKept.{DroppingKept}
+use Rattle.kept.specs.Answers.{DroppingKept}
 use Rattle.kept.specs.Keeping.{dropping_kept}
 use Rattle.kept.proofs.Answered.{dropping-done}
 
