@@ -4,7 +4,6 @@
 // stand that many bytes of the flow, a line end, as many expected bytes, and a line end.
 #![tactic(auto)]
 
-use correct::Correction;
 use desk::Numbers;
 use layout::Flow;
 use std::fs::File;
@@ -22,13 +21,13 @@ fn make(rt: &HostRuntime, flow: &mut [u8], expected: &[u8], call: Numbers) {
         call.fourth,
         call.fifth,
     ) {
-        Correction::Made => {
+        Ok(()) => {
             desk::print_bytes(rt, b"MADE\n");
             desk::print_comparison(rt, flow, expected);
             desk::print_judgement(rt, judge::judge(flow));
         }
-        Correction::Refused(number, at, position) => {
-            desk::print_refusal(rt, number, at, position);
+        Err(why) => {
+            desk::print_refusal(rt, why);
             desk::print_comparison(rt, flow, expected);
         }
     }

@@ -2,29 +2,12 @@
 // answer is another than for the date before, the date and the answer are printed. So these lines tell a million answers.
 #![tactic(auto)]
 
-use judge::Verdict;
 use layout::Position;
-
-// A refusal: its number, the record and the position.
-#[derive(Clone, Copy, PartialEq, Eq)]
-struct Refusal {
-    number: u64,
-    at: usize,
-    position: usize,
-}
+use refusal::Refusal;
 
 // The refusal of a flow; none where it is accepted.
 fn refusal_of(flow: &[u8]) -> Option<Refusal> {
-    let judgement = judge::judge(flow);
-    let verdict = judgement.verdict;
-    match verdict {
-        Verdict::Accepted => None,
-        Verdict::Refused(number, at, position) => Some(Refusal {
-            number,
-            at,
-            position,
-        }),
-    }
+    judge::judge(flow).verdict.err()
 }
 
 // The i-th date: the last two digits of i are its day, those before them its month, the first two its year.
@@ -37,15 +20,13 @@ fn print_answer(rt: &HostRuntime, date: u64, answer: Option<Refusal>) {
     let _ = print!(rt; "{date:06} ");
     match answer {
         None => desk::print_bytes(rt, b"ACCEPTED\n"),
-        Some(refusal) => {
-            desk::print_refusal(rt, refusal.number, refusal.at, refusal.position);
-        }
+        Some(why) => desk::print_refusal(rt, why),
     }
 }
 
 // The answer to a flow with this date.
 fn answer_on(flow: &mut [u8], date: u64) -> Option<Refusal> {
-    text::put_number(&mut *flow, Position::CREATION_DATE - 1, 6, date);
+    text::put_number(flow, Position::CREATION_DATE - 1, 6, date);
     refusal_of(flow)
 }
 

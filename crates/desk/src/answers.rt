@@ -1,7 +1,7 @@
 // Answers, as they are printed.
 use crate::output::print_bytes;
-use find::Found;
 use judge::Judgement;
+use refusal::Refusal;
 
 // A judgement, as document 01 has it printed.
 pub fn print_judgement(rt: &HostRuntime, judgement: Judgement) {
@@ -11,9 +11,9 @@ pub fn print_judgement(rt: &HostRuntime, judgement: Judgement) {
 }
 
 // A refusal: its number, the record and the position.
-pub fn print_refusal(rt: &HostRuntime, number: u64, at: usize, position: usize) {
+pub fn print_refusal(rt: &HostRuntime, why: Refusal) {
     let mut text = [0u8; report::ROOM];
-    let n = report::refusal_text(number, at, position, &mut text);
+    let n = report::refusal_text(why.number, why.record, why.position, &mut text);
     print_bytes(rt, &text[..n]);
 }
 
@@ -33,14 +33,14 @@ pub fn print_delega(rt: &HostRuntime, flow: &[u8], number: u64) {
 pub fn print_line(rt: &HostRuntime, flow: &[u8], delega: u64, subtype: u64, nth: u64) {
     let found = find::find(flow, delega, subtype, nth);
     match found {
-        Found::At(k) => {
+        Ok(k) => {
             let mut text = [0u8; report::ROOM];
             let n = report::line_text(k, &mut text);
             print_bytes(rt, &text[..n]);
             print_bytes(rt, find::part_of(flow, found));
             print_bytes(rt, b"\n");
         }
-        Found::Refused(number, at, position) => print_refusal(rt, number, at, position),
+        Err(why) => print_refusal(rt, why),
     }
 }
 

@@ -8,10 +8,8 @@ use crate::messages::fail;
 use crate::output::print_bytes;
 use crate::reading::{fill, opened};
 use crate::{CALL_HEADER, FIRST_MARK, Numbers};
-use args::Argument;
 use std::fs::File;
 use std::io::Read;
-use text::Digits;
 
 // No file of run cases has more.
 const MOST_CASES: usize = 10000;
@@ -73,10 +71,7 @@ fn print_name(rt: &HostRuntime, head: &[u8]) {
 fn number_of(digits: &[u8]) -> u64
     ensures { result ≡ or_zero (decimal_of digits.now) }
 {
-    match args::decimal(digits) {
-        Argument::Number(n) => n,
-        Argument::NoNumber => 0,
-    }
+    args::decimal(digits).unwrap_or(0)
 }
 
 // The numbers in the header of a call: behind a name of 40 bytes, each after a space, in 20 digits.
@@ -126,9 +121,8 @@ fn size_of(digits: &[u8]) -> usize
     ensures { result ≡ size_of digits.now }
 {
     match text::number(digits) {
-        Digits::Number(n) => n as usize,
-        Digits::NonDigit(_) => 99999,
-        Digits::TooLong => 99999,
+        Ok(n) => n as usize,
+        Err(_) => 99999,
     }
 }
 

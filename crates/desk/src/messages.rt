@@ -1,7 +1,6 @@
 // One line on standard error for what went wrong, in the name of the command that the clerk typed. Where standard error takes nothing, nobody can be told.
 use crate::Command;
 use crate::reading::{number_at, word_at};
-use args::Argument;
 use std::fmt::InlineText;
 use std::io;
 
@@ -92,13 +91,11 @@ impl Command<'_> {
 
     // The i-th argument as a number. Where it is none, one line on standard error says so, in which it goes by its name in the usage.
     pub fn number_at(&self, name: &str, i: usize) -> Option<u64> {
-        match number_at(self.rt, i) {
-            Argument::Number(n) => Some(n),
-            Argument::NoNumber => {
-                self.no_number(name, i);
-                None
-            }
+        let number = number_at(self.rt, i);
+        if number.is_none() {
+            self.no_number(name, i);
         }
+        number
     }
 
     // One line on standard error for a portion of zero, with the word itself.

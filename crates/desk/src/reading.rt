@@ -2,7 +2,6 @@
 ghost use Rattle.std.specs.Prelude.{◌≤◌, length, IfOk, IfSome};
 
 use crate::Command;
-use args::Argument;
 use layout::Flow;
 use std::env::FillError;
 use std::fs::File;
@@ -75,7 +74,7 @@ pub fn text_of(path: &[u8]) -> io::Result<&str> {
 }
 
 // The i-th argument as a number. Of a missing word, and of one of more than twenty bytes, `word_at` gives no byte, and an empty word is no number.
-pub fn number_at(rt: &HostRuntime, i: usize) -> Argument {
+pub fn number_at(rt: &HostRuntime, i: usize) -> Option<u64> {
     let mut word = [0u8; 20];
     let n = word_at(rt, i, &mut word);
     args::decimal(&word[..n])
@@ -97,6 +96,7 @@ pub fn fill<R: Read>(reader: &mut R, room: &mut [u8]) -> (usize, io::Result<()>)
     ensures { result.0 ≤ length room.old }
 {
     let mut done: usize = 0;
+    // Kept: a read moves the count by as much as the system gave; a `for` would count reads, and need this test too.
     while done < room.len() {
         match reader.read(&mut room[done..]) {
             Ok(0) => return (done, Ok(())),

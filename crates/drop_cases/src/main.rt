@@ -6,7 +6,6 @@
 #![tactic(auto)]
 
 use desk::Numbers;
-use dropping::Dropping;
 use layout::Flow;
 use std::fs::File;
 
@@ -19,13 +18,13 @@ const MOST_NUMBERS: usize = 600;
 // Drops deleghe from a flow, and prints what comes of it.
 fn make(rt: &HostRuntime, flow: &mut [u8], expected: &[u8], numbers: &[u64]) {
     match dropping::drop_deleghe(&mut *flow, numbers) {
-        Dropping::Dropped(length) => {
+        Ok(length) => {
             desk::print_counted(rt, "DROPPED", length);
             desk::print_comparison(rt, flow, expected);
             desk::print_judgement(rt, judge::judge(&flow[..length]));
         }
-        Dropping::Refused(number, at, position) => {
-            desk::print_refusal(rt, number, at, position);
+        Err(why) => {
+            desk::print_refusal(rt, why);
             desk::print_comparison(rt, flow, expected);
         }
     }

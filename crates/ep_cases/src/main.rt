@@ -3,7 +3,8 @@
 #![tactic(auto)]
 
 use desk::Numbers;
-use ep::EpAnswer;
+use ep::Payments;
+use refusal::Refusal;
 use std::fs::File;
 
 // The room takes 100,000 bytes, which no case exceeds, and the line end.
@@ -11,10 +12,10 @@ const ROOM: usize = 100_001;
 
 // An answer, as it is printed.
 // Kept: f24_ep has the same lines, and one function for both were no plainer: desk rests on no crate of the form, and each program on desk would list four more.
-fn print_answer(rt: &HostRuntime, answer: EpAnswer) {
+fn print_answer(rt: &HostRuntime, answer: Result<Payments, Refusal>) {
     match answer {
-        EpAnswer::Accepted(count, sum) => desk::print_payments(rt, count, sum),
-        EpAnswer::Refused(number, at, position) => desk::print_refusal(rt, number, at, position),
+        Ok(payments) => desk::print_payments(rt, payments.count, payments.sum),
+        Err(why) => desk::print_refusal(rt, why),
     }
 }
 

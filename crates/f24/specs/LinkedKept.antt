@@ -7,9 +7,7 @@ use Rattle.correct.specs.Correction.{refusal_made}
 use Rattle.mend.specs.Mending.{refusal_mended}
 use Rattle.dropping.specs.Dropping.{refusal_dropped}
 use Rattle.sums.specs.declared.KeptSums.{KeptSums}
-use Rattle.kept.specs.declared.CorrectionKept.{CorrectionKept}
-use Rattle.kept.specs.declared.MendingKept.{MendingKept}
-use Rattle.kept.specs.declared.DroppingKept.{DroppingKept}
+use Rattle.kept.specs.Answers.{CorrectionKept, MendingKept, DroppingKept}
 use Rattle.kept.specs.Keeping.{keeping, correction_kept, corrected_with, mending_kept, mended_with, listed_with, dropping_kept, dropped_with}
 use Rattle.f24.specs.Linked.{answer_numbers, mended_numbers, dropped_numbers}
 

@@ -3,7 +3,6 @@ ghost use Rattle.std.specs.Prelude.{◌≡◌};
 ghost use Rattle.f24.specs.LinkedEp.{ep_code, ep_room};
 
 use crate::NO_ROOM;
-use ep::EpAnswer;
 
 // How many numbers the answer needs room for.
 const EP_ROOM: usize = 2;
@@ -17,14 +16,14 @@ pub fn f24_ep_judge(records: &[u8], answer: &mut [u64]) -> u64
         return NO_ROOM;
     }
     match ep::ep_judge(records) {
-        EpAnswer::Accepted(count, sum) => {
-            let numbers = [count, sum];
+        Ok(payments) => {
+            let numbers = [payments.count, payments.sum];
             state::put(&mut *answer, &numbers);
             0
         }
-        EpAnswer::Refused(number, at, position) => {
-            answers::put_refusal(&mut *answer, at, position);
-            number
+        Err(why) => {
+            answers::put_refusal(&mut *answer, why.record, why.position);
+            why.number
         }
     }
 }

@@ -6,10 +6,6 @@ ghost use Rattle.f24.specs.LinkedKept.{rebalance_kept_code, rebalance_kept_flow,
 ghost use Rattle.f24.specs.LinkedKept.{drop_kept_code, drop_kept_flow, drop_kept_record, drop_kept_answer};
 
 use crate::NO_ROOM;
-use correct::Correction;
-use dropping::Dropping;
-use judge::Verdict;
-use mend::Mending;
 use sums::KeptSums;
 
 // How many numbers a record is.
@@ -32,9 +28,9 @@ pub fn f24_kept(flow: &[u8], kept: &mut [u64], answer: &mut [u64]) -> u64
     }
     let made = kept::keep(flow);
     let verdict = made.verdict;
-    if let Verdict::Refused(number, at, position) = verdict {
-        answers::put_refusal(&mut *answer, at, position);
-        return number;
+    if let Err(why) = verdict {
+        answers::put_refusal(&mut *answer, why.record, why.position);
+        return why.number;
     }
     let fresh = made.kept;
     let totals = fresh.sums;
@@ -78,13 +74,13 @@ pub fn f24_correct_kept(
     let totals = fresh.sums;
     let told = done.answer;
     match told {
-        Correction::Made => {
+        Ok(()) => {
             answers::put_sums(&mut *kept, totals);
             0
         }
-        Correction::Refused(number, at, position) => {
-            answers::put_refusal(&mut *answer, at, position);
-            number
+        Err(why) => {
+            answers::put_refusal(&mut *answer, why.record, why.position);
+            why.number
         }
     }
 }
@@ -114,15 +110,15 @@ pub fn f24_rebalance_kept(
     let totals = fresh.sums;
     let told = done.answer;
     match told {
-        Mending::Mended(count) => {
+        Ok(count) => {
             answers::put_sums(&mut *kept, totals);
             let numbers = [count as u64];
             state::put(&mut *answer, &numbers);
             0
         }
-        Mending::Refused(number, at, position) => {
-            answers::put_refusal(&mut *answer, at, position);
-            number
+        Err(why) => {
+            answers::put_refusal(&mut *answer, why.record, why.position);
+            why.number
         }
     }
 }
@@ -146,15 +142,15 @@ pub fn f24_drop_kept(flow: &mut [u8], numbers: &[u64], kept: &mut [u64], answer:
     let totals = fresh.sums;
     let told = done.answer;
     match told {
-        Dropping::Dropped(length) => {
+        Ok(length) => {
             answers::put_sums(&mut *kept, totals);
             let new_length = [length as u64];
             state::put(&mut *answer, &new_length);
             0
         }
-        Dropping::Refused(number, at, position) => {
-            answers::put_refusal(&mut *answer, at, position);
-            number
+        Err(why) => {
+            answers::put_refusal(&mut *answer, why.record, why.position);
+            why.number
         }
     }
 }

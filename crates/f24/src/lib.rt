@@ -19,13 +19,6 @@ ghost use Rattle.f24.specs.Linked.{rebalance_code, rebalance_flow, rebalance_lis
 ghost use Rattle.f24.specs.Linked.{drop_code, drop_flow, drop_answer};
 ghost use Rattle.f24.specs.Linked.{portion_code, portion_state, portion_room};
 
-use correct::Correction;
-use dropping::Dropping;
-use find::Found;
-use judge::Verdict;
-use mend::Mending;
-use write::Writing;
-
 // What is returned where a room is too short.
 const NO_ROOM: u64 = 100;
 
@@ -59,9 +52,9 @@ pub fn f24_judge(flow: &[u8], answer: &mut [u64]) -> u64
     }
     let judgement = judge::judge(flow);
     let verdict = judgement.verdict;
-    if let Verdict::Refused(number, at, position) = verdict {
-        answers::put_refusal(&mut *answer, at, position);
-        return number;
+    if let Err(why) = verdict {
+        answers::put_refusal(&mut *answer, why.record, why.position);
+        return why.number;
     }
     let numbers = answers::summary_numbers(judgement.summary);
     state::put(&mut *answer, &numbers);
@@ -78,9 +71,9 @@ pub fn f24_delega(flow: &[u8], number: u64, answer: &mut [u64]) -> u64
     }
     let one = delega::delega(flow, number);
     let verdict = one.verdict;
-    if let Verdict::Refused(code, at, position) = verdict {
-        answers::put_refusal(&mut *answer, at, position);
-        return code;
+    if let Err(why) = verdict {
+        answers::put_refusal(&mut *answer, why.record, why.position);
+        return why.number;
     }
     let numbers = answers::delega_numbers(one);
     state::put(&mut *answer, &numbers);
@@ -96,14 +89,14 @@ pub fn f24_find(flow: &[u8], delega: u64, subtype: u64, nth: u64, answer: &mut [
         return NO_ROOM;
     }
     match find::find(flow, delega, subtype, nth) {
-        Found::At(k) => {
+        Ok(k) => {
             let numbers = [k as u64];
             state::put(&mut *answer, &numbers);
             0
         }
-        Found::Refused(number, at, position) => {
-            answers::put_refusal(&mut *answer, at, position);
-            number
+        Err(why) => {
+            answers::put_refusal(&mut *answer, why.record, why.position);
+            why.number
         }
     }
 }
@@ -126,10 +119,10 @@ pub fn f24_correct(
         return NO_ROOM;
     }
     match correct::correct(&mut *flow, delega, subtype, nth, debit, credit) {
-        Correction::Made => 0,
-        Correction::Refused(number, at, position) => {
-            answers::put_refusal(&mut *answer, at, position);
-            number
+        Ok(()) => 0,
+        Err(why) => {
+            answers::put_refusal(&mut *answer, why.record, why.position);
+            why.number
         }
     }
 }
@@ -144,14 +137,14 @@ pub fn f24_write(sheet: &[u8], room: &mut [u8], answer: &mut [u64]) -> u64
         return NO_ROOM;
     }
     match write::write(sheet, &mut *room) {
-        Writing::Written(length) => {
+        Ok(length) => {
             let numbers = [length as u64];
             state::put(&mut *answer, &numbers);
             0
         }
-        Writing::Refused(number, at, position) => {
-            answers::put_refusal(&mut *answer, at, position);
-            number
+        Err(why) => {
+            answers::put_refusal(&mut *answer, why.record, why.position);
+            why.number
         }
     }
 }
@@ -167,14 +160,14 @@ pub fn f24_rebalance(flow: &mut [u8], changed: &mut [u64], answer: &mut [u64]) -
         return NO_ROOM;
     }
     match mend::mend(&mut *flow, &mut *changed) {
-        Mending::Mended(count) => {
+        Ok(count) => {
             let numbers = [count as u64];
             state::put(&mut *answer, &numbers);
             0
         }
-        Mending::Refused(number, at, position) => {
-            answers::put_refusal(&mut *answer, at, position);
-            number
+        Err(why) => {
+            answers::put_refusal(&mut *answer, why.record, why.position);
+            why.number
         }
     }
 }
@@ -189,14 +182,14 @@ pub fn f24_drop(flow: &mut [u8], numbers: &[u64], answer: &mut [u64]) -> u64
         return NO_ROOM;
     }
     match dropping::drop_deleghe(&mut *flow, numbers) {
-        Dropping::Dropped(length) => {
+        Ok(length) => {
             let new_length = [length as u64];
             state::put(&mut *answer, &new_length);
             0
         }
-        Dropping::Refused(number, at, position) => {
-            answers::put_refusal(&mut *answer, at, position);
-            number
+        Err(why) => {
+            answers::put_refusal(&mut *answer, why.record, why.position);
+            why.number
         }
     }
 }

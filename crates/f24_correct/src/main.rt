@@ -1,7 +1,6 @@
 // Corrects one line of the flow in a file, and saves the corrected flow there.
 #![tactic(auto)]
 
-use correct::Correction;
 use desk::{Command, Target};
 
 // A line to correct, and its new amounts.
@@ -25,12 +24,12 @@ fn correct_flow(target: &Target, flow: &mut [u8], call: Call) {
         call.debit,
         call.credit,
     ) {
-        Correction::Made => {
+        Ok(()) => {
             if target.replace("corrected", flow) {
                 desk::print_judgement(rt, judge::judge(flow));
             }
         }
-        Correction::Refused(number, at, position) => desk::print_refusal(rt, number, at, position),
+        Err(why) => desk::print_refusal(rt, why),
     }
 }
 

@@ -2,7 +2,6 @@
 #![tactic(auto)]
 
 use desk::{Command, Target};
-use dropping::Dropping;
 use layout::Flow;
 
 // The most numbers that are lent. A flow has fewer deleghe, and a list of more numbers than deleghe is refused with 21, whatever they are: the first of a longer list
@@ -19,13 +18,8 @@ fn deliver(target: &Target, flow: &[u8]) {
 // Drops the deleghe from a flow that was read from a file.
 fn drop_from(target: &Target, flow: &mut [u8], numbers: &[u64]) {
     match dropping::drop_deleghe(&mut *flow, numbers) {
-        Dropping::Dropped(n) => deliver(target, &flow[..n]),
-        Dropping::Refused(number, at, position) => desk::print_refusal(
-            target.command.rt,
-            number,
-            at,
-            position,
-        ),
+        Ok(n) => deliver(target, &flow[..n]),
+        Err(why) => desk::print_refusal(target.command.rt, why),
     }
 }
 

@@ -7,8 +7,9 @@ ghost use Rattle.std.specs.Prelude.{false, ◌≡◌, IfSome};
 ghost use Rattle.f24_ep.specs.Reading.{FromPieces, FromBytes};
 
 use desk::{Command, Source};
-use ep::{Course, EpAnswer};
+use ep::{Course, Payments};
 use ep_accounts::RECORD;
+use refusal::Refusal;
 
 // The most pieces that are read. So many records are one too many, and what follows alters nothing.
 const MOST_PIECES: usize = ep::MOST_RECORDS + 1;
@@ -42,7 +43,11 @@ fn judge_open(command: &Command, word: &[u8], source: &mut Source) -> Option<Cou
 }
 
 // The answer for an open file; none where a read fails.
-fn answer_open(command: &Command, word: &[u8], source: &mut Source) -> Option<EpAnswer>
+fn answer_open(
+    command: &Command,
+    word: &[u8],
+    source: &mut Source,
+) -> Option<Result<Payments, Refusal>>
     ensures { IfSome result FromBytes }
 {
     let course = judge_open(command, word, source)?;
@@ -51,10 +56,10 @@ fn answer_open(command: &Command, word: &[u8], source: &mut Source) -> Option<Ep
 
 // An answer, as it is printed.
 // Kept: ep_cases has the same lines, and one function for both were no plainer: desk rests on no crate of the form, and each program on desk would list four more.
-fn print_answer(rt: &HostRuntime, answer: EpAnswer) {
+fn print_answer(rt: &HostRuntime, answer: Result<Payments, Refusal>) {
     match answer {
-        EpAnswer::Accepted(count, sum) => desk::print_payments(rt, count, sum),
-        EpAnswer::Refused(number, at, position) => desk::print_refusal(rt, number, at, position),
+        Ok(payments) => desk::print_payments(rt, payments.count, payments.sum),
+        Err(why) => desk::print_refusal(rt, why),
     }
 }
 

@@ -6,9 +6,10 @@ ghost use Rattle.std.specs.Prelude.{◌≡◌};
 ghost use Rattle.f24_judge.specs.InTurn.{goes_on, calls_of};
 
 use desk::Command;
-use judge::{Judgement, Verdict};
+use judge::Judgement;
 use layout::Flow;
 use portion::{Course, Portion};
+use refusal::Refusal;
 
 // What calls in a row have come to: the answer of the last one, and how many they were.
 #[derive(Clone, Copy)]
@@ -49,14 +50,21 @@ fn print_ended(rt: &HostRuntime, last: Portion) -> bool {
             desk::print_judgement(
                 rt,
                 Judgement {
-                    verdict: Verdict::Accepted,
+                    verdict: Ok(()),
                     summary: last.summary,
                 },
             );
             true
         }
         Course::Refused(number, at, position) => {
-            desk::print_refusal(rt, number, at, position);
+            desk::print_refusal(
+                rt,
+                Refusal {
+                    number,
+                    record: at,
+                    position,
+                },
+            );
             true
         }
     }

@@ -4,7 +4,6 @@
 
 use desk::{Command, Target};
 use layout::Flow;
-use mend::Mending;
 
 // The longest list: record and start of four fields for each record.
 const MOST_CHANGED: usize = 2 * 4 * Flow::MOST_RECORDS;
@@ -25,12 +24,12 @@ fn rebalance_flow(target: &Target, flow: &mut [u8]) {
     let rt = target.command.rt;
     let mut list = [0u64; MOST_CHANGED];
     match mend::mend(&mut *flow, &mut list) {
-        Mending::Mended(count) => {
+        Ok(count) => {
             if kept(target, flow, count) {
                 print_rebalanced(rt, flow, &list, count);
             }
         }
-        Mending::Refused(number, at, position) => desk::print_refusal(rt, number, at, position),
+        Err(why) => desk::print_refusal(rt, why),
     }
 }
 
@@ -38,8 +37,8 @@ fn rebalance_flow(target: &Target, flow: &mut [u8]) {
 fn try_flow(rt: &HostRuntime, flow: &mut [u8]) {
     let mut list = [0u64; MOST_CHANGED];
     match mend::mend(&mut *flow, &mut list) {
-        Mending::Mended(count) => print_rebalanced(rt, flow, &list, count),
-        Mending::Refused(number, at, position) => desk::print_refusal(rt, number, at, position),
+        Ok(count) => print_rebalanced(rt, flow, &list, count),
+        Err(why) => desk::print_refusal(rt, why),
     }
 }
 

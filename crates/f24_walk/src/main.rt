@@ -3,18 +3,18 @@
 
 use desk::Command;
 use layout::Flow;
-use walk::Answer;
+use refusal::Refusal;
 
 // Prints what a step answers, and says whether the walk goes on.
-fn show(rt: &HostRuntime, answer: Answer, part: &[u8]) -> bool {
+fn show(rt: &HostRuntime, answer: Result<Option<usize>, Refusal>, part: &[u8]) -> bool {
     match answer {
-        Answer::Shown(k) => {
+        Ok(Some(k)) => {
             desk::print_record(rt, k, part);
             true
         }
-        Answer::NoMore => false,
-        Answer::Refused(number, at, position) => {
-            desk::print_refusal(rt, number, at, position);
+        Ok(None) => false,
+        Err(why) => {
+            desk::print_refusal(rt, why);
             false
         }
     }

@@ -8,7 +8,6 @@ use layout::Flow;
 use std::fs::File;
 use std::io;
 use std::io::ErrorKind;
-use write::Writing;
 
 // No sheet of more bytes can be cut into the 546 records of a flow: besides head, tail and the count of deleghe it has room for 181 deleghe, each of three records and five counts.
 const MOST_BYTES: usize = 2 * Flow::RECORD + 3 + 181 * (3 * Flow::RECORD + 10);
@@ -108,13 +107,8 @@ impl NewFile<'_> {
 fn write_flow(new: &NewFile, sheet: &[u8]) {
     let mut room = [0u8; Flow::MOST_BYTES];
     match write::write(sheet, &mut room) {
-        Writing::Written(n) => new.deliver(&room[..n]),
-        Writing::Refused(number, at, position) => desk::print_refusal(
-            new.command.rt,
-            number,
-            at,
-            position,
-        ),
+        Ok(n) => new.deliver(&room[..n]),
+        Err(why) => desk::print_refusal(new.command.rt, why),
     }
 }
 

@@ -8,6 +8,7 @@ use Rattle.judge.specs.declared.Judgement.{Judgement}
 use Rattle.judge.specs.Refusal.{Accepted}
 use Rattle.judge.specs.Flow.{judged}
 use Rattle.correct.specs.Answers.{Correction}
+use Rattle.correct.specs.Answers as Amend
 use Rattle.correct.proofs.StaysAccepted.{corrected-accepted}
 use Rattle.mend.specs.Answers.{Mending}
 use Rattle.mend.specs.Answers as Mend
@@ -36,8 +37,8 @@ pub call-owns : (c : Call) (b : Beside) → b.kept ≡ kept_of b.flow → (after
 call-owns (Correct c) b w = go (correction_with b.kept b.flow c.delega c.subtype c.nth c.debit c.credit) refl
   where
     go : (a : Correction) → correction_with b.kept b.flow c.delega c.subtype c.nth c.debit c.credit ≡ a → (after_call (Correct c) b).kept ≡ kept_of (after_call (Correct c) b).flow
-    go Correction.Made e = (correction-made b.kept b.flow c.delega c.subtype c.nth c.debit c.credit e).1
-    go (Correction.Refused m r p) e = let h = correction-refused b.kept b.flow c.delega c.subtype c.nth c.debit c.credit e in as-came b w h.0 h.1
+    go Amend.Made e = (correction-made b.kept b.flow c.delega c.subtype c.nth c.debit c.credit e).1
+    go (Err why) e = let h = correction-refused b.kept b.flow c.delega c.subtype c.nth c.debit c.credit e in as-came b w h.0 h.1
 call-owns (Rebalance list) b w = go (mending_with b.kept b.flow list) refl
   where
     go : (a : Mending) → mending_with b.kept b.flow list ≡ a → (after_call (Rebalance list) b).kept ≡ kept_of (after_call (Rebalance list) b).flow
@@ -54,10 +55,10 @@ call-accepts : (c : Call) (b : Beside) → (judged b.flow).verdict ≡ Accepted 
 call-accepts (Correct c) b w = go (correction_with b.kept b.flow c.delega c.subtype c.nth c.debit c.credit) refl
   where
     go : (a : Correction) → correction_with b.kept b.flow c.delega c.subtype c.nth c.debit c.credit ≡ a → (judged (after_call (Correct c) b).flow).verdict ≡ Accepted
-    go Correction.Made e =
+    go Amend.Made e =
         ap (λ (s : List ℕ). (judged s).verdict) (correction-made b.kept b.flow c.delega c.subtype c.nth c.debit c.credit e).0
         ∙ ap (λ (j : Judgement). j.verdict) (corrected-accepted b.flow c.delega c.subtype c.nth c.debit c.credit ((correction-done b.kept b.flow c.delega c.subtype c.nth c.debit c.credit).0 e).0)
-    go (Correction.Refused m r p) e = ap (λ (s : List ℕ). (judged s).verdict) (correction-refused b.kept b.flow c.delega c.subtype c.nth c.debit c.credit e).0 ∙ w
+    go (Err why) e = ap (λ (s : List ℕ). (judged s).verdict) (correction-refused b.kept b.flow c.delega c.subtype c.nth c.debit c.credit e).0 ∙ w
 call-accepts (Rebalance list) b w = go (mending_with b.kept b.flow list) refl
   where
     go : (a : Mending) → mending_with b.kept b.flow list ≡ a → (judged (after_call (Rebalance list) b).flow).verdict ≡ Accepted
@@ -96,8 +97,8 @@ pub call-changes-nothing : (c : Call) (b : Beside) → (b.kept ≡ kept_of b.flo
 call-changes-nothing (Correct c) b h = go (correction_with b.kept b.flow c.delega c.subtype c.nth c.debit c.credit) refl
   where
     go : (a : Correction) → correction_with b.kept b.flow c.delega c.subtype c.nth c.debit c.credit ≡ a → after_call (Correct c) b ≡ b
-    go Correction.Made e = absurd (h ((correction-done b.kept b.flow c.delega c.subtype c.nth c.debit c.credit).0 e).1)
-    go (Correction.Refused m r p) e = let w = correction-refused b.kept b.flow c.delega c.subtype c.nth c.debit c.credit e in ap₂ (λ s l. record { flow = s; kept = l }) w.0 w.1
+    go Amend.Made e = absurd (h ((correction-done b.kept b.flow c.delega c.subtype c.nth c.debit c.credit).0 e).1)
+    go (Err why) e = let w = correction-refused b.kept b.flow c.delega c.subtype c.nth c.debit c.credit e in ap₂ (λ s l. record { flow = s; kept = l }) w.0 w.1
 call-changes-nothing (Rebalance list) b h = go (mending_with b.kept b.flow list) refl
   where
     go : (a : Mending) → mending_with b.kept b.flow list ≡ a → after_call (Rebalance list) b ≡ b

@@ -4,6 +4,7 @@ use Prim.Native.Nat.{ℕ, ◌<◌, ◌≤◌}
 use mathlib.Core.Path.{◌≡◌, refl, sym, ap, ◌∙◌}
 use mathlib.Core.List.{List, []}
 use native.Mathlib.Omega.{arith}
+use borrow.Author.Tests.{ne_eqb}
 use lib.ListN.{length}
 use Rattle.judge.specs.declared.Judgement.{Judgement}
 use Rattle.judge.specs.Refusal.{Verdict, refusal_of}
@@ -27,6 +28,7 @@ use Rattle.dropping.specs.Answers as Drop
 use Rattle.dropping.specs.Dropping.{dropping_of}
 use Rattle.sums.specs.declared.KeptSums.{KeptSums}
 use Rattle.kept.specs.Keeping.{correction_with, mending_with, dropping_with}
+use Rattle.kept.specs.Inner.{mismatch_of, or_foreign}
 use Rattle.kept.specs.WhenRefused.{refusal_lenient}
 use Rattle.kept.proofs.Guarded.{Sort, none, some, Guarded}
 
@@ -85,6 +87,23 @@ lenient-none f e = go (remaining f) refl
 
 lenient-long : (f : List ℕ) → 65520 < length f → 1 ≤ (lenient f).number
 lenient-long f h = let e : (lenient f).number ≡ 1 = ap (λ (v : Lenient). (refusal_lenient v).number) (remaining-long f h) in omega arith
+
+-- What a call is refused whose record is not the flow's, by its own judgement.
+pub mismatch-strict : (f : List ℕ) → or_foreign (judged f).verdict ≡ mismatch_of (strict f)
+unfolding mismatch_of
+mismatch-strict f = go (judged f).verdict refl
+  where
+    go : (v : Verdict) → (judged f).verdict ≡ v → or_foreign v ≡ mismatch_of (refusal_of v)
+    go Judge.Accepted e = refl
+    go (Err why) e = rw (ne_eqb why.number 0 (λ z. omega (arith, (judgement-number f e).0)))
+
+pub mismatch-lenient : (f : List ℕ) → or_foreign (remaining f) ≡ mismatch_of (lenient f)
+unfolding mismatch_of
+mismatch-lenient f = go (remaining f) refl
+  where
+    go : (v : Lenient) → remaining f ≡ v → or_foreign v ≡ mismatch_of (refusal_lenient v)
+    go Leniently.Passed e = refl
+    go (Err why) e = rw (ne_eqb why.number 0 (λ z. omega (arith, remaining-number f e)))
 
 module _ (k : KeptSums) (f : List ℕ) where
   pub correction-guarded : (d subtype n x y : ℕ) → Guarded Correct.Refused (correction_of f d subtype n x y) (strict f) k f (correction_with k f d subtype n x y)

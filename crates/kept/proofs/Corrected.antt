@@ -9,7 +9,7 @@ use Rattle.correct.proofs.Conditions.{refused-untouched}
 use Rattle.sums.specs.declared.KeptSums.{KeptSums}
 use Rattle.sums.specs.LineSums.{kept_of, stands_for}
 use Rattle.sums.specs.Inner.{matched}
-use Rattle.kept.specs.declared.Mismatch.{Mismatch}
+use Rattle.refusal.specs.declared.Refusal.{Refusal}
 use Rattle.kept.specs.Keeping.{correction_with, corrected_with, kept_corrected, correction_kept}
 use Rattle.kept.specs.Inner.{mismatch_of}
 use Rattle.kept.proofs.Guarded.{guarded-plain, guarded-none}
@@ -30,7 +30,7 @@ module _ (k : KeptSums) (f : List ℕ) (d subtype n x y : ℕ) where
   answer-refused m r p e = answering (Refused m r p) (sym e)
 
   -- Where the record is not found to match, that is the answer.
-  pub answer-none : matched k f ≡ false → (u : Mismatch) → u ≡ mismatch_of (strict f) → Answering (Refused u.number u.at u.position) k f
+  pub answer-none : matched k f ≡ false → (u : Refusal) → u ≡ mismatch_of (strict f) → Answering (Refused u.number u.«record» u.position) k f
   answer-none e u h = rw h (answer-refused _ _ _ (guarded-none (correction-guarded k f d subtype n x y) e))
 
   module _ (e : stands_for k f ≡ true) where

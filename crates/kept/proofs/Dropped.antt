@@ -10,7 +10,7 @@ use Rattle.dropping.proofs.Dropped.{dropped-room, refused-stays}
 use Rattle.sums.specs.declared.KeptSums.{KeptSums}
 use Rattle.sums.specs.LineSums.{kept_of, stands_for}
 use Rattle.sums.specs.Inner.{matched}
-use Rattle.kept.specs.declared.Mismatch.{Mismatch}
+use Rattle.refusal.specs.declared.Refusal.{Refusal}
 use Rattle.kept.specs.Keeping.{dropping_with, dropped_with, kept_dropped, dropping_kept}
 use Rattle.kept.specs.Inner.{mismatch_of}
 use Rattle.kept.proofs.Guarded.{guarded-plain, guarded-none}
@@ -31,7 +31,7 @@ module _ (k : KeptSums) (f numbers : List ℕ) where
   answer-refused m r p e = answering (Refused m r p) (sym e)
 
   -- Where the record is not found to match, that is the answer.
-  pub answer-none : matched k f ≡ false → (u : Mismatch) → u ≡ mismatch_of (strict f) → Answering (Refused u.number u.at u.position) k f
+  pub answer-none : matched k f ≡ false → (u : Refusal) → u ≡ mismatch_of (strict f) → Answering (Refused u.number u.«record» u.position) k f
   answer-none e u h = rw h (answer-refused _ _ _ (guarded-none (dropping-guarded k f numbers) e))
 
   module _ (e : stands_for k f ≡ true) where

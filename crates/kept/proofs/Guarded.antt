@@ -39,16 +39,6 @@ pub data Sort (x : Refusal) : Type 0 where
   none : x ≡ no_refusal → Sort x
   some : 1 ≤ x.number → Sort x
 
--- What a mismatch is refused: 29 where there is no such refusal, else that refusal.
-module _ (x : Refusal) where
-  pub mismatch-none : x ≡ no_refusal → record { number = 29; at = 0; position = 0 } ≡ mismatch_of x
-  unfolding mismatch_of
-  mismatch-none e = rw e
-
-  pub mismatch-some : {n r p : ℕ} → x ≡ refusal n r p → 1 ≤ n → record { number = n; at = r; position = p } ≡ mismatch_of x
-  unfolding mismatch_of
-  mismatch-some {n} e h = rw (e, ne_eqb n 0 (λ z. omega arith))
-
 -- How a call refuses, what it is answered without a record, its own judgement's refusal of the flow, the record and the flow; and what it is answered with them.
 pub record Guarded {A : Type 0} (refused : ℕ → ℕ → ℕ → A) (plain : A) (x : Refusal) (k : KeptSums) (f : List ℕ) (answer : A) : Type 0 where
   pub sort : Sort x
@@ -67,7 +57,7 @@ module _ {A : Type 0} {refused : ℕ → ℕ → ℕ → A} {plain : A} {x : Ref
       go (some h) = g.told h ∙ sym (g.own h)
 
   -- Where it is not found to match, the answer is the judgement's own refusal, else 29.
-  pub guarded-none : matched k f ≡ false → answer ≡ refused (mismatch_of x).number (mismatch_of x).at (mismatch_of x).position
+  pub guarded-none : matched k f ≡ false → answer ≡ refused (mismatch_of x).number (mismatch_of x).«record» (mismatch_of x).position
   unfolding matched mismatch_of
   guarded-none e = go g.sort
     where
@@ -75,7 +65,7 @@ module _ {A : Type 0} {refused : ℕ → ℕ → ℕ → A} {plain : A} {x : Ref
       wrong h true p q = absurd (omega (arith, g.long (ltb-true _ _ p), ap (λ (y : Refusal). y.number) h))
       wrong h false p q = q
 
-      go : Sort x → answer ≡ refused (mismatch_of x).number (mismatch_of x).at (mismatch_of x).position
+      go : Sort x → answer ≡ refused (mismatch_of x).number (mismatch_of x).«record» (mismatch_of x).position
       go (none h) = g.weighed h ∙ rw (wrong h (ltb 65520 (length f)) refl e, h)
       go (some h) = g.told h ∙ rw (ne_eqb x.number 0 (λ z. omega arith))
 

@@ -27,9 +27,7 @@ use Rattle.sums.specs.declared.KeptSums.{KeptSums}
 use Rattle.sums.specs.LineSums.{kept_of}
 use Rattle.sums.proofs.Adding.{accepted-sums}
 use Rattle.sums.proofs.Equality.{stands-exactly}
-use Rattle.kept.specs.declared.CorrectionKept.{CorrectionKept}
-use Rattle.kept.specs.declared.MendingKept.{MendingKept}
-use Rattle.kept.specs.declared.DroppingKept.{DroppingKept}
+use Rattle.kept.specs.Answers.{CorrectionKept, MendingKept, DroppingKept}
 use Rattle.kept.specs.Keeping.{keeping, correction_with, corrected_with, correction_kept, mending_with, mended_with, listed_with, mending_kept, dropping_with, dropped_with, dropping_kept}
 use Rattle.kept.proofs.Corrected as OnCorrection
 use Rattle.kept.proofs.Mended as OnMending

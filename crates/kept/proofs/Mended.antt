@@ -15,7 +15,7 @@ use Rattle.sums.specs.LineSums.{kept_of, stands_for}
 use Rattle.sums.specs.Inner.{matched}
 use Rattle.sums.proofs.Adding.{sums-after, accepted-sums}
 use Rattle.sums.proofs.Equality.{stands-exactly}
-use Rattle.kept.specs.declared.Mismatch.{Mismatch}
+use Rattle.refusal.specs.declared.Refusal.{Refusal}
 use Rattle.kept.specs.Keeping.{mending_with, mended_with, listed_with, kept_mended, mending_kept}
 use Rattle.kept.specs.Inner.{mismatch_of}
 use Rattle.kept.proofs.Guarded.{guarded-plain, guarded-none}
@@ -42,7 +42,7 @@ module _ (k : KeptSums) (f list : List ℕ) where
   answer-refused m r p e = answering (Refused m r p) (sym e)
 
   -- Where the record is not found to match, that is the answer.
-  pub answer-none : matched k f ≡ false → (u : Mismatch) → u ≡ mismatch_of (lenient f) → Answering (Refused u.number u.at u.position) k f list
+  pub answer-none : matched k f ≡ false → (u : Refusal) → u ≡ mismatch_of (lenient f) → Answering (Refused u.number u.«record» u.position) k f list
   answer-none e u h = rw h (answer-refused _ _ _ (guarded-none (mending-guarded k f list) e))
 
   -- Flow and list are the plain call's, and the record is as it came.

@@ -4,9 +4,7 @@ use mathlib.Core.Path.{◌≡◌, sym, ◌∙◌}
 use mathlib.Core.List.{List}
 use Rattle.sums.specs.declared.KeptSums.{KeptSums}
 use Rattle.kept.specs.declared.Keeping.{Keeping}
-use Rattle.kept.specs.declared.CorrectionKept.{CorrectionKept}
-use Rattle.kept.specs.declared.MendingKept.{MendingKept}
-use Rattle.kept.specs.declared.DroppingKept.{DroppingKept}
+use Rattle.kept.specs.Answers.{CorrectionKept, MendingKept, DroppingKept}
 use Rattle.kept.specs.Keeping.{keeping, correction_kept, corrected_with, mending_kept, mended_with, listed_with, dropping_kept, dropped_with}
 
 -- Two answers that agree with the same thing agree.

@@ -16,9 +16,7 @@ use Rattle.dropping.specs.Dropping.{shortened, dropping_of, dropped_flow}
 use Rattle.sums.specs.declared.KeptSums.{KeptSums}
 use Rattle.sums.specs.LineSums.{kept_of, stands_for}
 use Rattle.kept.specs.declared.Keeping.{Keeping}
-use Rattle.kept.specs.declared.CorrectionKept.{CorrectionKept}
-use Rattle.kept.specs.declared.MendingKept.{MendingKept}
-use Rattle.kept.specs.declared.DroppingKept.{DroppingKept}
+use Rattle.kept.specs.Answers.{CorrectionKept, MendingKept, DroppingKept}
 
 -- "made when the flow is accepted": the sums that its judgement answers, zeros with a refusal
 unfoldable pub keeping : List ℕ → Keeping

@@ -1,3 +1,4 @@
+pub mod Answers
 pub mod Keeping
 pub mod Inner
 pub mod WhenRefused

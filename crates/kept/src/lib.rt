@@ -3,45 +3,22 @@
 
 ghost use Rattle.std.specs.Prelude.{◌≡◌};
 ghost use Rattle.kept.specs.Keeping.{keeping, correction_kept, corrected_with, mending_kept, mended_with, listed_with, dropping_kept, dropped_with};
-ghost use Rattle.judge.specs.Refusal.{refusal_of};
-ghost use Rattle.judge.specs.Flow.{judged};
-ghost use Rattle.mend.specs.Mending.{remaining};
-ghost use Rattle.kept.specs.WhenRefused.{refusal_lenient};
-ghost use Rattle.kept.specs.Inner.{mismatch_of};
+ghost use Rattle.kept.specs.Inner.{or_foreign};
 
-use correct::Correction;
-use dropping::Dropping;
-use judge::Verdict;
-use lenient::Lenient;
-use mend::Mending;
+use refusal::Refusal;
 use sums::KeptSums;
 
 // The verdict on a flow, and the record that is made of it: zeros with a refusal.
 #[derive(Clone, Copy)]
 pub struct Keeping {
-    pub verdict: Verdict,
+    pub verdict: Result<(), Refusal>,
     pub kept: KeptSums,
 }
 
-// The answer to a correction, and the record that is handed back.
-// Kept: three types of one shape and not one that is generic, since `correction_kept`, `mending_kept` and `dropping_kept` name them, and definitions stay.
+// The answer of a call, and the record that is handed back.
 #[derive(Clone, Copy)]
-pub struct CorrectionKept {
-    pub answer: Correction,
-    pub kept: KeptSums,
-}
-
-// The same of a rebalancing.
-#[derive(Clone, Copy)]
-pub struct MendingKept {
-    pub answer: Mending,
-    pub kept: KeptSums,
-}
-
-// The same of a dropping.
-#[derive(Clone, Copy)]
-pub struct DroppingKept {
-    pub answer: Dropping,
+pub struct WithSums<T> {
+    pub answer: Result<T, Refusal>,
     pub kept: KeptSums,
 }
 
@@ -58,47 +35,13 @@ pub fn keep(flow: &[u8]) -> Keeping
     }
 }
 
-// The refusal of a call whose record is not the flow's.
-#[derive(Clone, Copy)]
-struct Mismatch {
-    number: u64,
-    at: usize,
-    position: usize,
-}
-
-// The judgement's own refusal, else 29.
-fn strict_mismatch(flow: &[u8]) -> Mismatch
-    ensures { result ≡ mismatch_of (refusal_of (judged flow.now).verdict) }
+// The refusal of a call whose record is not the flow's: that of the call's own judgement, else 29.
+fn or_foreign(own: Result<(), Refusal>) -> Refusal
+    ensures { result ≡ or_foreign own }
 {
-    match judge::judge(flow).verdict {
-        Verdict::Accepted => Mismatch {
-            number: 29,
-            at: 0,
-            position: 0,
-        },
-        Verdict::Refused(number, at, position) => Mismatch {
-            number,
-            at,
-            position,
-        },
-    }
-}
-
-// The same of a rebalancing, which judges the flow leniently.
-fn lenient_mismatch(flow: &[u8]) -> Mismatch
-    ensures { result ≡ mismatch_of (refusal_lenient (remaining flow.now)) }
-{
-    match mend::first_remaining(flow) {
-        Lenient::Passed => Mismatch {
-            number: 29,
-            at: 0,
-            position: 0,
-        },
-        Lenient::Refused(number, at, position) => Mismatch {
-            number,
-            at,
-            position,
-        },
+    match own {
+        Ok(()) => Refusal::FOREIGN_SUMS,
+        Err(why) => why,
     }
 }
 
@@ -111,61 +54,61 @@ pub fn correct_kept(
     debit: u64,
     credit: u64,
     kept: KeptSums,
-) -> CorrectionKept
+) -> WithSums<()>
     ensures { (result ≡ correction_kept kept flow.old delega subtype nth debit credit)
         × (flow.new ≡ corrected_with kept flow.old delega subtype nth debit credit) }
 {
     if !sums::matches(kept, flow) {
-        let own = strict_mismatch(flow);
-        return CorrectionKept {
-            answer: Correction::Refused(own.number, own.at, own.position),
+        let own = or_foreign(judge::judge(flow).verdict);
+        return WithSums {
+            answer: Err(own),
             kept,
         };
     }
     let answer = correct::correct(flow, delega, subtype, nth, debit, credit);
-    if let Correction::Made = answer {
+    if let Ok(()) = answer {
         let fresh = sums::of_lines(flow);
-        return CorrectionKept {
+        return WithSums {
             answer,
             kept: fresh,
         };
     }
-    CorrectionKept { answer, kept }
+    WithSums { answer, kept }
 }
 
 // Rebalances a flow for whose lines the record stands. No line changes, and so the record stands for the flow afterwards.
-pub fn rebalance_kept(flow: &mut [u8], list: &mut [u64], kept: KeptSums) -> MendingKept
+pub fn rebalance_kept(flow: &mut [u8], list: &mut [u64], kept: KeptSums) -> WithSums<usize>
     ensures { (result ≡ mending_kept kept flow.old list.old)
         × (flow.new ≡ mended_with kept flow.old list.old)
         × (list.new ≡ listed_with kept flow.old list.old) }
 {
     if !sums::matches(kept, flow) {
-        let own = lenient_mismatch(flow);
-        return MendingKept {
-            answer: Mending::Refused(own.number, own.at, own.position),
+        let own = or_foreign(mend::first_remaining(flow));
+        return WithSums {
+            answer: Err(own),
             kept,
         };
     }
     let answer = mend::mend(flow, list);
-    MendingKept { answer, kept }
+    WithSums { answer, kept }
 }
 
 // Drops the deleghe that a list names from a flow for whose lines the record stands.
-pub fn drop_kept(flow: &mut [u8], numbers: &[u64], kept: KeptSums) -> DroppingKept
+pub fn drop_kept(flow: &mut [u8], numbers: &[u64], kept: KeptSums) -> WithSums<usize>
     ensures { (result ≡ dropping_kept kept flow.old numbers.now)
         × (flow.new ≡ dropped_with kept flow.old numbers.now) }
 {
     if !sums::matches(kept, flow) {
-        let own = strict_mismatch(flow);
-        return DroppingKept {
-            answer: Dropping::Refused(own.number, own.at, own.position),
+        let own = or_foreign(judge::judge(flow).verdict);
+        return WithSums {
+            answer: Err(own),
             kept,
         };
     }
     let answer = dropping::drop_deleghe(flow, numbers);
-    if let Dropping::Dropped(length) = answer {
+    if let Ok(length) = answer {
         let left = sums::of_lines(&flow[..length]);
-        return DroppingKept { answer, kept: left };
+        return WithSums { answer, kept: left };
     }
-    DroppingKept { answer, kept }
+    WithSums { answer, kept }
 }

@@ -11,16 +11,12 @@
 
 ghost use Rattle.std.specs.Prelude.{◌+◌, ◌≤◌, length, IfSome};
 
-use correct::Correction;
 use desk::Numbers;
-use dropping::Dropping;
-use judge::Verdict;
 use kept::Keeping;
 use layout::Flow;
-use mend::Mending;
+use refusal::Refusal;
 use std::fs::File;
 use sums::KeptSums;
-use text::Digits;
 
 // The longest flow of a case: one that is too long by a record. The room has a line end more.
 const MOST_FLOW: usize = Flow::MOST_BYTES + Flow::RECORD;
@@ -73,22 +69,21 @@ fn print_sums(rt: &HostRuntime, kept: KeptSums) {
 
 // The record that is made from a flow, or the refusal.
 fn print_keeping(rt: &HostRuntime, made: Keeping) {
-    let verdict = made.verdict;
-    match verdict {
-        Verdict::Accepted => print_sums(rt, made.kept),
-        Verdict::Refused(number, at, position) => desk::print_refusal(rt, number, at, position),
+    match made.verdict {
+        Ok(()) => print_sums(rt, made.kept),
+        Err(why) => desk::print_refusal(rt, why),
     }
 }
 
 // The answer of a correction; false where it is a refusal.
-fn print_correction(rt: &HostRuntime, answer: Correction) -> bool {
+fn print_correction(rt: &HostRuntime, answer: Result<(), Refusal>) -> bool {
     match answer {
-        Correction::Made => {
+        Ok(()) => {
             desk::print_bytes(rt, b"MADE\n");
             true
         }
-        Correction::Refused(number, at, position) => {
-            desk::print_refusal(rt, number, at, position);
+        Err(why) => {
+            desk::print_refusal(rt, why);
             false
         }
     }
@@ -116,15 +111,15 @@ fn correct_line(rt: &HostRuntime, flow: &mut [u8], call: Numbers, kept: KeptSums
 }
 
 // The answer of a rebalancing and the fields that it lists; false where it is a refusal.
-fn print_mending(rt: &HostRuntime, answer: Mending, list: &[u64]) -> bool {
+fn print_mending(rt: &HostRuntime, answer: Result<usize, Refusal>, list: &[u64]) -> bool {
     match answer {
-        Mending::Mended(count) => {
+        Ok(count) => {
             desk::print_counted(rt, "REBALANCED", count);
             desk::print_changes(rt, list, count);
             true
         }
-        Mending::Refused(number, at, position) => {
-            desk::print_refusal(rt, number, at, position);
+        Err(why) => {
+            desk::print_refusal(rt, why);
             false
         }
     }
@@ -144,12 +139,7 @@ fn rebalance_flow(rt: &HostRuntime, flow: &mut [u8], list: &mut [u64], kept: Kep
 }
 
 // Rebalances a flow with a list of so many numbers, if a list can be so long.
-fn rebalance_with(
-    rt: &HostRuntime,
-    flow: &mut [u8],
-    size: usize,
-    kept: KeptSums,
-) -> Option<Left>
+fn rebalance_with(rt: &HostRuntime, flow: &mut [u8], size: usize, kept: KeptSums) -> Option<Left>
     ensures { IfSome result (λ left. left.length ≤ length flow.old) }
 {
     if MOST_LIST < size {
@@ -167,7 +157,7 @@ fn drop_deleghe(rt: &HostRuntime, flow: &mut [u8], numbers: &[u64], kept: KeptSu
     let n = flow.len();
     let made = kept::drop_kept(flow, numbers, kept);
     match made.answer {
-        Dropping::Dropped(length) => {
+        Ok(length) => {
             desk::print_counted(rt, "DROPPED", length);
             Left {
                 done: true,
@@ -175,8 +165,8 @@ fn drop_deleghe(rt: &HostRuntime, flow: &mut [u8], numbers: &[u64], kept: KeptSu
                 kept: made.kept,
             }
         }
-        Dropping::Refused(number, at, position) => {
-            desk::print_refusal(rt, number, at, position);
+        Err(why) => {
+            desk::print_refusal(rt, why);
             Left {
                 done: false,
                 length: n,
@@ -216,11 +206,7 @@ fn kind_of(head: [u8; 153]) -> Option<Kind> {
 
 // Whether the line of a step says this length.
 fn says_length(head: [u8; 153], n: usize) -> bool {
-    match text::number(&head[146..152]) {
-        Digits::Number(length) => length == n as u64,
-        Digits::NonDigit(_) => false,
-        Digits::TooLong => false,
-    }
+    text::number(&head[146..152]) == Ok(n as u64)
 }
 
 // Reads the line of a step on a flow of so many bytes; none where it is not there, has no word of a step or says another length.
@@ -260,13 +246,7 @@ fn lent_record(text: &[u8], last: KeptSums) -> KeptSums {
 }
 
 // Makes a step with the numbers that stand below its line.
-fn make(
-    rt: &HostRuntime,
-    step: Step,
-    flow: &mut [u8],
-    text: &[u8],
-    last: KeptSums,
-) -> Option<Left>
+fn make(rt: &HostRuntime, step: Step, flow: &mut [u8], text: &[u8], last: KeptSums) -> Option<Left>
     requires { 232 ≤ length text.now }
     ensures { IfSome result (λ left. left.length ≤ length flow.old) }
 {
@@ -308,12 +288,7 @@ fn step_on(
 }
 
 // One step on a flow, after one that handed back a record.
-fn one_step(
-    rt: &HostRuntime,
-    cases: &mut File,
-    flow: &mut [u8],
-    last: KeptSums,
-) -> Option<Left>
+fn one_step(rt: &HostRuntime, cases: &mut File, flow: &mut [u8], last: KeptSums) -> Option<Left>
     ensures { IfSome result (λ left. left.length ≤ length flow.old) }
 {
     let n = flow.len();

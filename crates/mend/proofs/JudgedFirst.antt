@@ -12,6 +12,7 @@ use Rattle.layout.specs.Sections.{section_at}
 use Rattle.layout.specs.Kinds.{kind_in}
 use Rattle.layout.specs.Fields.{tail_deleghe, tail_sum, tail_records, fields_of, bytes_of}
 use Rattle.refusal.specs.Outcomes.{Pass, Fails}
+use Rattle.refusal.proofs.Parts.{fails-parts}
 use Rattle.rules.specs.declared.State.{State}
 use Rattle.rules.specs.State.{start_state}
 use Rattle.rules.specs.Stored.{Stored, Value, Mark, section_sums, stored_of, right, fault_of, wrong}
@@ -60,8 +61,8 @@ wrongly-one f x r s n p a b h o e q = (placed x a q, λ d. true≢false (sym (ho
     part t = rw (a, b) (ap (λ (m : ℕ). take m (drop (start_of x) t)) (let z : width_of x ≡ start_of x + width_of x - start_of x = omega arith in z))
 
     placed : (y : Stored) → f.start ≡ start_of y → fault_of y ≡ Fails n p → p ≡ f.start + 1
-    placed (Value m g v) c d = rw c (let z : p ≡ g.start + 1 = cc in z)
-    placed (Mark m g v) c d = rw c (let z : p ≡ g + 1 = cc in z)
+    placed (Value m g v) c d = rw c (sym (fails-parts d).1)
+    placed (Mark m g v) c d = rw c (sym (fails-parts d).1)
 
 -- The first stored field that is not right is one of the columns.
 wrongly : (fl : List Field) (xs : List Stored) (r s : List ℕ) (n p : ℕ) → Covers fl xs → fits_all xs ≡ true → Holds xs s → wrong xs r ≡ Fails n p → Wrongly fl r s p

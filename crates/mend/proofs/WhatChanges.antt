@@ -22,7 +22,7 @@ use Rattle.rebalance.proofs.Judged.{sized-records, flat-records}
 use Rattle.changes.specs.Changes.{written_fields, Place, place, changes_of}
 use Rattle.changes.specs.Listed.{record_behind, Listed, OneOf, first, later, Differs}
 use Rattle.changes.proofs.Listed.{refreshed-length, changed-exactly}
-use Rattle.mend.specs.Answers.{Mending, Mended, Refused}
+use Rattle.mend.specs.Answers.{Mending, Mended}
 use Rattle.mend.specs.Mending.{mending_of, mended_flow}
 use Rattle.mend.specs.Effect.{may_change, InListed}
 use Rattle.mend.proofs.MendedFlow.{rebalanced-when, flow-by}

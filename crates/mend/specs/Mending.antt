@@ -5,7 +5,7 @@ use Rattle.rules.specs.State.{start_state}
 use Rattle.rules.specs.Step.{next}
 use Rattle.state.specs.Numbers.{overlay}
 use Rattle.refusal.specs.declared.Refusal.{Refusal}
-use Rattle.refusal.specs.Refusals.{refusal, no_refusal}
+use Rattle.refusal.specs.Refusals.{no_refusal}
 use Rattle.judge.specs.Flow.{records_of, head_name_of}
 use Rattle.rebalance.specs.Rebalance.{refreshed, all_fit, kept_fault}
 use Rattle.lenient.specs.Answers.{Lenient}

@@ -6,7 +6,6 @@
 
 use desk::Numbers;
 use layout::Flow;
-use mend::Mending;
 use std::fs::File;
 
 // The room takes flows that are too long by a byte, and the line end.
@@ -42,15 +41,15 @@ fn print_kept(rt: &HostRuntime, list: &[u64], count: usize) {
 // Rebalances a flow, and prints what comes of it.
 fn make(rt: &HostRuntime, flow: &mut [u8], expected: &[u8], list: &mut [u64]) {
     match mend::mend(&mut *flow, &mut *list) {
-        Mending::Mended(count) => {
+        Ok(count) => {
             desk::print_counted(rt, "REBALANCED", count);
             desk::print_changes(rt, list, count);
             print_kept(rt, list, count);
             desk::print_comparison(rt, flow, expected);
             desk::print_judgement(rt, judge::judge(flow));
         }
-        Mending::Refused(number, at, position) => {
-            desk::print_refusal(rt, number, at, position);
+        Err(why) => {
+            desk::print_refusal(rt, why);
             print_kept(rt, list, 0);
             desk::print_comparison(rt, flow, expected);
         }

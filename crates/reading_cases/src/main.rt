@@ -7,7 +7,7 @@
 use desk::Numbers;
 use layout::Flow;
 use std::fs::File;
-use walk::{Answer, WalkPlace};
+use walk::WalkPlace;
 
 // The room takes flows that are too long by a byte, and the line end.
 const ROOM: usize = Flow::MOST_BYTES + 2;
@@ -17,9 +17,9 @@ fn print_step(rt: &HostRuntime, flow: &[u8], shown: usize) {
     let step = walk::step_at(flow, WalkPlace { shown });
     let answer = step.answer;
     match answer {
-        Answer::Shown(k) => desk::print_record(rt, k, walk::part_at(flow, answer)),
-        Answer::NoMore => desk::print_bytes(rt, b"NO MORE\n"),
-        Answer::Refused(number, at, position) => desk::print_refusal(rt, number, at, position),
+        Ok(Some(k)) => desk::print_record(rt, k, walk::part_at(flow, answer)),
+        Ok(None) => desk::print_bytes(rt, b"NO MORE\n"),
+        Err(why) => desk::print_refusal(rt, why),
     }
     desk::print_counted(rt, "PLACE", step.next.shown);
 }

@@ -10,7 +10,7 @@ ghost use Rattle.report.specs.Appended.{Appended};
 
 use amounts::Sums;
 use delega::DelegaAnswer;
-use judge::{Judgement, Summary, Verdict};
+use judge::{Judgement, Summary};
 
 // The room in which every text fits.
 pub const ROOM: usize = 512;
@@ -107,8 +107,8 @@ pub fn judgement_text(j: Judgement, room: &mut [u8]) -> usize
         return 0;
     }
     match j.verdict {
-        Verdict::Accepted => put_accepted(room, j.summary),
-        Verdict::Refused(number, at, position) => put_refused(room, number, at, position),
+        Ok(()) => put_accepted(room, j.summary),
+        Err(why) => put_refused(room, why.number, why.record, why.position),
     }
 }
 
@@ -130,8 +130,8 @@ pub fn delega_text(number: u64, answer: DelegaAnswer, room: &mut [u8]) -> usize
         return 0;
     }
     match answer.verdict {
-        Verdict::Accepted => put_answered(room, number, answer),
-        Verdict::Refused(code, at, position) => put_refused(room, code, at, position),
+        Ok(()) => put_answered(room, number, answer),
+        Err(why) => put_refused(room, why.number, why.record, why.position),
     }
 }
 

@@ -6,7 +6,7 @@ use mathlib.Core.List.{List}
 use lib.ListN.{length}
 use Rattle.text.specs.Answers.{Characters, Allowed, BadAt}
 use Rattle.text.specs.Characters.{first_bad}
-use Rattle.refusal.specs.Outcomes.{Outcome, Pass, Fails}
+use Rattle.refusal.specs.Outcomes.{Outcome, Pass}
 use Rattle.amounts.specs.Outcomes.{first}
 use Rattle.rules.specs.declared.State.{State}
 use Rattle.rules.specs.Checks.{char_fault}

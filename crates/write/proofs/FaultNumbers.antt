@@ -7,7 +7,7 @@ use Rattle.text.specs.Characters.{first_bad}
 use Rattle.layout.specs.declared.Kind.{Kind}
 use Rattle.layout.specs.Kinds.{kind_in}
 use Rattle.layout.specs.Fields.{value_of, delega_number}
-use Rattle.refusal.specs.Outcomes.{Outcome, Pass, Fails}
+use Rattle.refusal.specs.Outcomes.{Outcome, Pass}
 use Rattle.amounts.specs.Outcomes.{first}
 use Rattle.amounts.specs.Names.{same_bytes}
 use Rattle.text.specs.Among.{among}

@@ -1,11 +1,12 @@
 -- The faults of records to be written, one by one: they pass together where each passes, and else the first is told.
 use Rattle.std.specs.Prelude.{Err}
 use Prim.Native.Nat.{ℕ, suc, ◌+◌}
-use mathlib.Core.Path.{◌≡◌, refl, ap, ◌∙◌}
+use mathlib.Core.Path.{◌≡◌, refl, sym, ap, ◌∙◌}
 use mathlib.Core.List.{List, [], ◌∷◌, ◌++◌}
 use native.Mathlib.Omega.{arith}
 use lib.ListN.{length}
 use Rattle.refusal.specs.Outcomes.{Outcome, Pass, Fails}
+use Rattle.refusal.proofs.Parts.{refused-parts}
 use Rattle.rules.specs.declared.State.{State}
 use Rattle.rules.specs.Step.{next}
 use Rattle.judge.specs.Plain.{state_after}
@@ -55,7 +56,9 @@ first-told name st (e ∷ es) {n} {r} {p} q = go (entry_fault name st e) refl q 
     go : (o : Outcome) → entry_fault name st e ≡ o → or_refused o st.seen (entries_fault name (next st (filled name e)) es) ≡ Kept.Refused n r p →
         (entries_fault name (next st (filled name e)) es ≡ Kept.Refused n r p → Told name (next st (filled name e)) es n r p) → Told name st (e ∷ es) n r p
     go Pass h f g = told-on name st e es n r p h (g f)
-    go (Err why) h f g = (1, cc, record { before = []; here = e; behind = es; split = refl; counted = refl; passes = tt; fails = cc })
+    go (Err why) h f g =
+        let q = refused-parts f in
+        (1, sym q.1, record { before = []; here = e; behind = es; split = refl; counted = refl; passes = tt; fails = rw (← q.0, ← q.2) h })
 
 -- Where a record has a fault behind records that pass, it is told.
 pub told-first : (name : List ℕ) (st : State) (before : List Entry) (here : Entry) (behind : List Entry) {n p : ℕ} → NoEntryFault name st before → entry_fault name (state_after st (filled_all name before)) here ≡ Fails n p →

@@ -9,6 +9,7 @@ use borrow.Author.Tests.{eq-eqb, ne_eqb}
 use lib.ListN.{length, take, drop}
 use Rattle.text.specs.Characters.{first_bad}
 use Rattle.refusal.specs.Outcomes.{Outcome, Pass, Fails}
+use Rattle.refusal.proofs.Parts.{fails-parts}
 use Rattle.amounts.specs.Names.{same_bytes}
 use Rattle.amounts.specs.Outcomes.{first}
 use Rattle.layout.specs.declared.Kind.{Kind}
@@ -58,8 +59,8 @@ slot-four k r n p e = go (same_bytes (take 2 (drop 1 r)) (type_text k)) (same_by
   where
     go : (t u : Bool) → cond t (cond u Pass (Fails 4 11)) (Fails 4 2) ≡ Fails n p → n ≡ 4
     go true true h = cc
-    go true false h = cc
-    go false u h = cc
+    go true false h = sym (fails-parts h).0
+    go false u h = sym (fails-parts h).0
 
 -- What comes behind records, where they pass.
 abbrev pub behind_faults : Lenient → Lenient → Lenient

@@ -46,7 +46,7 @@ above-four name st e a h f =
     (slot-kind a.in-slot r d.0, d.1)
 
 -- The k-th record to be written fails with number n at position p, after some state.
-pub record Fails (sheet : List ℕ) (n k p : ℕ) : Type 0 where
+pub record FailsAt (sheet : List ℕ) (n k p : ℕ) : Type 0 where
   pub a-sheet : IsSheet sheet
   pub entered : Entered (entry_at (entries_in sheet) (k - 1))
   pub after : State
@@ -57,13 +57,13 @@ abbrev OfRecord : ℕ → Type 0
 OfRecord n = (n ≡ 0 → ⊥) × (n ≡ 1 → ⊥) × (n ≡ 23 → ⊥) × (n ≡ 24 → ⊥) × (n ≡ 25 → ⊥)
 
 -- A sheet that is refused with such a number is refused for a record.
-pub record-refused : (sheet room : List ℕ) (n k p : ℕ) → OfRecord n → refusal_written (writing_of sheet room) ≡ refusal n k p → Fails sheet n k p
+pub record-refused : (sheet room : List ℕ) (n k p : ℕ) → OfRecord n → refusal_written (writing_of sheet room) ≡ refusal n k p → FailsAt sheet n k p
 record-refused sheet room n k p o w = why ((refused-exactly sheet room (refusal n k p)).0 (w, o.0))
   where
     here : Entry
     here = entry_at (entries_in sheet) (k - 1)
 
-    named : Tried sheet room → FirstEntryFault (name_in sheet) start_state (entries_in sheet) n k p → Fails sheet n k p
+    named : Tried sheet room → FirstEntryFault (name_in sheet) start_state (entries_in sheet) n k p → FailsAt sheet n k p
     named t f =
         let c = f.counted in
         let j : k - 1 ≡ length f.before = omega arith in
@@ -80,7 +80,7 @@ record-refused sheet room n k p o w = why ((refused-exactly sheet room (refusal 
     number : {m : ℕ} → refusal n k p ≡ refusal m 0 0 → n ≡ m
     number q = ap (λ (y : Refusal). y.number) q
 
-    why : WhyRefused sheet room (refusal n k p) → Fails sheet n k p
+    why : WhyRefused sheet room (refusal n k p) → FailsAt sheet n k p
     why (NotASheet h q) = absurd (o.3 (number q))
     why (ShortRoom i h q) = absurd (o.4 (number q))
     why (ManyRecords i h m q) = absurd (o.1 (number q))

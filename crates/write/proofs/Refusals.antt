@@ -10,6 +10,7 @@ use borrow.Author.Tests.{ltb-true, ltb-false, lt-ltb, le-ltb}
 use lib.Dec.{ltb}
 use lib.ListN.{length}
 use Rattle.refusal.specs.Outcomes.{Fails}
+use Rattle.refusal.proofs.Parts.{refused-parts}
 use Rattle.text.specs.Among.{among}
 use Rattle.rules.specs.declared.State.{State}
 use Rattle.rules.specs.State.{start_state}
@@ -132,7 +133,7 @@ module _ (sheet room : List ℕ) where
   refused_why {n} {r} {p} e = go way e
     where
       go : {w : Writing} → Way sheet room w → w ≡ Refused n r p → WhyRefused sheet room (refusal n r p) × (n ≡ 0 → ⊥)
-      go (refused {n = a} {r = b} {p = c} w z) q = let i : a ≡ n = cc in let j : b ≡ r = cc in let k : c ≡ p = cc in (rw (← i, ← j, ← k) w, λ m. z (omega arith))
+      go (refused w z) q = let i = refused-parts q in (rw (← i.0, ← i.1, ← i.2) w, λ m. z (i.0 ∙ m))
       go (written m) q = let z : ◌≡◌ {A = ℕ} 0 1 = cc in absurd (omega arith)
 
   -- A flow is written exactly where the sheet is refused for no reason.

@@ -9,7 +9,7 @@ use Rattle.rules.specs.State.{start_state}
 use Rattle.rules.specs.Checks.{char_fault}
 use Rattle.rules.specs.Step.{next}
 use Rattle.refusal.specs.declared.Refusal.{Refusal}
-use Rattle.refusal.specs.Refusals.{refusal, no_refusal}
+use Rattle.refusal.specs.Refusals.{no_refusal}
 use Rattle.rebalance.specs.Rebalance.{rebalanced, all_fit, flat, kept_fault}
 use Rattle.lenient.specs.Answers.{Lenient}
 use Rattle.lenient.specs.Answers as Kept

@@ -6,7 +6,6 @@
 
 use desk::Numbers;
 use std::fs::File;
-use write::Writing;
 
 // The longest room of a case.
 const MOST_ROOM: usize = 66_000;
@@ -24,13 +23,13 @@ fn mark(room: &mut [u8]) {
 // Writes the flow of a sheet, and prints what comes of it.
 fn make(rt: &HostRuntime, sheet: &[u8], room: &mut [u8], expected: &[u8]) {
     match write::write(sheet, &mut *room) {
-        Writing::Written(length) => {
+        Ok(length) => {
             desk::print_counted(rt, "WRITTEN", length);
             desk::print_comparison(rt, room, expected);
             desk::print_judgement(rt, judge::judge(&room[..length]));
         }
-        Writing::Refused(number, at, position) => {
-            desk::print_refusal(rt, number, at, position);
+        Err(why) => {
+            desk::print_refusal(rt, why);
             desk::print_comparison(rt, room, expected);
         }
     }

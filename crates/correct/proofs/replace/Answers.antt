@@ -33,13 +33,13 @@ left c e = ap (λ (a : Correction). bytes_after a (refreshed (new c)) (flow c)) 
 pub rebalance-requires : goal.rebalance-requires
 rebalance-requires c =
     let q = (goal.at.rebalance-requires c).After-outcome-answer in
-    rw (wrote q) (whole-amounts _ _ _ q.requires.1 _ _ q.requires.0, made-fits (new q) (sym (answered q) ∙ c.in-Made.is))
+    rw (wrote q) (whole-amounts _ _ _ q.requires.1 _ _ q.requires.0, made-fits (new q) (sym (answered q) ∙ c.in-Ok.is))
 
-pub returns-in-Made : goal.returns-in-Made
+pub returns-in-Ok : goal.returns-in-Ok
 unfolding refreshed
-returns-in-Made c =
-    let q = (goal.at.returns-in-Made c).After-outcome-answer in
-    (answered q, c.rebalance.ensures ∙ (ap refreshed (wrote q) ∙ sym (left q c.in-Made.is)))
+returns-in-Ok c =
+    let q = (goal.at.returns-in-Ok c).After-outcome-answer in
+    (answered q, c.rebalance.ensures ∙ (ap refreshed (wrote q) ∙ sym (left q c.in-Ok.is)))
 
 pub returns : goal.returns
 returns c =

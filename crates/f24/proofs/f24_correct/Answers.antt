@@ -11,16 +11,16 @@ pub returns-then-answer-lt-CORRECT_ROOM : goal.returns-then-answer-lt-CORRECT_RO
 unfolding correct_code correct_flow correct_room
 returns-then-answer-lt-CORRECT_ROOM c = (short-code _ _ c.if-answer-lt-CORRECT_ROOM.true, rw (lt-ltb _ _ c.if-answer-lt-CORRECT_ROOM.true), short-room _ _ c.if-answer-lt-CORRECT_ROOM.true)
 
-pub returns-in-Made : goal.returns-in-Made
+pub returns-in-Ok : goal.returns-in-Ok
 unfolding correct_code correct_flow correct_room
-returns-in-Made c =
-    let e = sym c.correct.ensures.0 ∙ c.in-Made.is in
+returns-in-Ok c =
+    let e = sym c.correct.ensures.0 ∙ c.in-Ok.is in
     let h = c.if-answer-lt-CORRECT_ROOM.false in
     (long-code _ h (rw e), rw (le-ltb _ _ h) c.correct.ensures.1, rw e (answer-room _ _ h (sym (overlay-none _))))
 
-pub returns-in-Refused : goal.returns-in-Refused
+pub returns-in-Err : goal.returns-in-Err
 unfolding correct_code correct_flow correct_room
-returns-in-Refused c =
-    let e = sym c.correct.ensures.0 ∙ c.in-Refused.is in
+returns-in-Err c =
+    let e = sym c.correct.ensures.0 ∙ c.in-Err.is in
     let h = c.if-answer-lt-CORRECT_ROOM.false in
     (long-code _ h (rw e), rw (le-ltb _ _ h) c.correct.ensures.1, rw e (refused-room _ _ _ _ _ (correction-number _ _ _ _ _ _ e) h c.put_refusal.ensures))

@@ -14,10 +14,10 @@ pub returns-then-answer-lt-DELEGA_ROOM : goal.returns-then-answer-lt-DELEGA_ROOM
 unfolding delega_code delega_room
 returns-then-answer-lt-DELEGA_ROOM c = (short-code _ _ c.if-answer-lt-DELEGA_ROOM.true, short-room _ _ c.if-answer-lt-DELEGA_ROOM.true)
 
-pub returns-in-Refused : goal.returns-in-Refused
+pub returns-in-Err : goal.returns-in-Err
 unfolding delega_code delega_room
-returns-in-Refused c =
-    let e = ap (λ (a : DelegaAnswer). a.verdict) (sym c.delega-one.ensures) ∙ c.in-Refused.is in
+returns-in-Err c =
+    let e = ap (λ (a : DelegaAnswer). a.verdict) (sym c.delega-one.ensures) ∙ c.in-Err.is in
     let h = c.if-answer-lt-DELEGA_ROOM.false in
     (long-code _ h (rw e), rw e (refused-room _ _ _ _ _ (delega-number _ _ e) h c.put_refusal.ensures))
 

@@ -11,16 +11,16 @@ pub returns-then-answer-lt-DROP_ROOM : goal.returns-then-answer-lt-DROP_ROOM
 unfolding drop_code drop_flow drop_answer
 returns-then-answer-lt-DROP_ROOM c = (short-code _ _ c.if-answer-lt-DROP_ROOM.true, rw (lt-ltb _ _ c.if-answer-lt-DROP_ROOM.true), short-room _ _ c.if-answer-lt-DROP_ROOM.true)
 
-pub returns-in-Dropped : goal.returns-in-Dropped
+pub returns-in-Ok : goal.returns-in-Ok
 unfolding drop_code drop_flow drop_answer
-returns-in-Dropped c =
-    let e = sym c.drop_deleghe.ensures.0 ∙ c.in-Dropped.is in
+returns-in-Ok c =
+    let e = sym c.drop_deleghe.ensures.0 ∙ c.in-Ok.is in
     let h = c.if-answer-lt-DROP_ROOM.false in
     (long-code _ h (rw e), rw (le-ltb _ _ h) c.drop_deleghe.ensures.1, rw e (answer-room _ _ h c.put.ensures))
 
-pub returns-in-Refused : goal.returns-in-Refused
+pub returns-in-Err : goal.returns-in-Err
 unfolding drop_code drop_flow drop_answer
-returns-in-Refused c =
-    let e = sym c.drop_deleghe.ensures.0 ∙ c.in-Refused.is in
+returns-in-Err c =
+    let e = sym c.drop_deleghe.ensures.0 ∙ c.in-Err.is in
     let h = c.if-answer-lt-DROP_ROOM.false in
     (long-code _ h (rw e), rw (le-ltb _ _ h) c.drop_deleghe.ensures.1, rw e (refused-room _ _ _ _ _ (dropping-number _ _ e) h c.put_refusal.ensures))

@@ -9,16 +9,16 @@ pub returns-then-answer-lt-FIND_ROOM : goal.returns-then-answer-lt-FIND_ROOM
 unfolding find_code find_room
 returns-then-answer-lt-FIND_ROOM c = (short-code _ _ c.if-answer-lt-FIND_ROOM.true, short-room _ _ c.if-answer-lt-FIND_ROOM.true)
 
-pub returns-in-At : goal.returns-in-At
+pub returns-in-Ok : goal.returns-in-Ok
 unfolding find_code find_room
-returns-in-At c =
-    let e = sym c.find.ensures ∙ c.in-At.is in
+returns-in-Ok c =
+    let e = sym c.find.ensures ∙ c.in-Ok.is in
     let h = c.if-answer-lt-FIND_ROOM.false in
     (long-code _ h (rw e), rw e (answer-room _ _ h c.put.ensures))
 
-pub returns-in-Refused : goal.returns-in-Refused
+pub returns-in-Err : goal.returns-in-Err
 unfolding find_code find_room
-returns-in-Refused c =
-    let e = sym c.find.ensures ∙ c.in-Refused.is in
+returns-in-Err c =
+    let e = sym c.find.ensures ∙ c.in-Err.is in
     let h = c.if-answer-lt-FIND_ROOM.false in
     (long-code _ h (rw e), rw e (refused-room _ _ _ _ _ (found_number _ _ _ _ _ _ _ e) h c.put_refusal.ensures))

@@ -10,10 +10,10 @@ pub returns-then-answer-lt-JUDGE_ROOM : goal.returns-then-answer-lt-JUDGE_ROOM
 unfolding judge_code judge_room
 returns-then-answer-lt-JUDGE_ROOM c = (short-code _ _ c.if-answer-lt-JUDGE_ROOM.true, short-room _ _ c.if-answer-lt-JUDGE_ROOM.true)
 
-pub returns-in-Refused : goal.returns-in-Refused
+pub returns-in-Err : goal.returns-in-Err
 unfolding judge_code judge_room
-returns-in-Refused c =
-    let e = ap (λ (j : Judgement). j.verdict) (sym c.judge-judgement.ensures) ∙ c.in-Refused.is in
+returns-in-Err c =
+    let e = ap (λ (j : Judgement). j.verdict) (sym c.judge-judgement.ensures) ∙ c.in-Err.is in
     let h = c.if-answer-lt-JUDGE_ROOM.false in
     (long-code _ h (rw e), rw e (refused-room _ _ _ _ _ (judgement-number _ e).0 h c.put_refusal.ensures))
 

@@ -11,16 +11,16 @@ pub returns-then-answer-lt-REBALANCE_ROOM : goal.returns-then-answer-lt-REBALANC
 unfolding rebalance_code rebalance_flow rebalance_list rebalance_answer
 returns-then-answer-lt-REBALANCE_ROOM c = (short-code _ _ c.if-answer-lt-REBALANCE_ROOM.true, rw (lt-ltb _ _ c.if-answer-lt-REBALANCE_ROOM.true), rw (lt-ltb _ _ c.if-answer-lt-REBALANCE_ROOM.true), short-room _ _ c.if-answer-lt-REBALANCE_ROOM.true)
 
-pub returns-in-Mended : goal.returns-in-Mended
+pub returns-in-Ok : goal.returns-in-Ok
 unfolding rebalance_code rebalance_flow rebalance_list rebalance_answer
-returns-in-Mended c =
-    let e = sym c.mend.ensures.0 ∙ c.in-Mended.is in
+returns-in-Ok c =
+    let e = sym c.mend.ensures.0 ∙ c.in-Ok.is in
     let h = c.if-answer-lt-REBALANCE_ROOM.false in
     (long-code _ h (rw e), rw (le-ltb _ _ h) c.mend.ensures.1, rw (le-ltb _ _ h) c.mend.ensures.2, rw e (answer-room _ _ h c.put.ensures))
 
-pub returns-in-Refused : goal.returns-in-Refused
+pub returns-in-Err : goal.returns-in-Err
 unfolding rebalance_code rebalance_flow rebalance_list rebalance_answer
-returns-in-Refused c =
-    let e = sym c.mend.ensures.0 ∙ c.in-Refused.is in
+returns-in-Err c =
+    let e = sym c.mend.ensures.0 ∙ c.in-Err.is in
     let h = c.if-answer-lt-REBALANCE_ROOM.false in
     (long-code _ h (rw e), rw (le-ltb _ _ h) c.mend.ensures.1, rw (le-ltb _ _ h) c.mend.ensures.2, rw e (refused-room _ _ _ _ _ (mending-number _ _ e) h c.put_refusal.ensures))

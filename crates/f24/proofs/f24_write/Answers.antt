@@ -11,16 +11,16 @@ pub returns-then-answer-lt-WRITE_ROOM : goal.returns-then-answer-lt-WRITE_ROOM
 unfolding write_code write_room write_answer
 returns-then-answer-lt-WRITE_ROOM c = (short-code _ _ c.if-answer-lt-WRITE_ROOM.true, rw (lt-ltb _ _ c.if-answer-lt-WRITE_ROOM.true), short-room _ _ c.if-answer-lt-WRITE_ROOM.true)
 
-pub returns-in-Written : goal.returns-in-Written
+pub returns-in-Ok : goal.returns-in-Ok
 unfolding write_code write_room write_answer
-returns-in-Written c =
-    let e = sym c.write.ensures.0 ∙ c.in-Written.is in
+returns-in-Ok c =
+    let e = sym c.write.ensures.0 ∙ c.in-Ok.is in
     let h = c.if-answer-lt-WRITE_ROOM.false in
     (long-code _ h (rw e), rw (le-ltb _ _ h) c.write.ensures.1, rw e (answer-room _ _ h c.put.ensures))
 
-pub returns-in-Refused : goal.returns-in-Refused
+pub returns-in-Err : goal.returns-in-Err
 unfolding write_code write_room write_answer
-returns-in-Refused c =
-    let e = sym c.write.ensures.0 ∙ c.in-Refused.is in
+returns-in-Err c =
+    let e = sym c.write.ensures.0 ∙ c.in-Err.is in
     let h = c.if-answer-lt-WRITE_ROOM.false in
     (long-code _ h (rw e), rw (le-ltb _ _ h) c.write.ensures.1, rw e (refused-room _ _ _ _ _ (writing-number _ _ e) h c.put_refusal.ensures))

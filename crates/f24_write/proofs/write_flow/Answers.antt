@@ -6,7 +6,7 @@ use Rattle.write.proofs.WrittenFlow.{written-length}
 use Rattle.f24_write.proofs.write_flow.Goals as goal
 
 pub slice_bounds-room-end : goal.slice_bounds-room-end
-slice_bounds-room-end c = omega (arith, (written-length _ _ _ (sym c.write.ensures.0 ∙ c.in-Written.is)).2)
+slice_bounds-room-end c = omega (arith, (written-length _ _ _ (sym c.write.ensures.0 ∙ c.in-Ok.is)).2)
 
 pub slice_bounds-deliver-end : goal.slice_bounds-deliver-end
-slice_bounds-deliver-end c = rw length-take (omega (arith, (written-length _ _ _ (sym c.write.ensures.0 ∙ c.in-Written.is)).2))
+slice_bounds-deliver-end c = rw length-take (omega (arith, (written-length _ _ _ (sym c.write.ensures.0 ∙ c.in-Ok.is)).2))

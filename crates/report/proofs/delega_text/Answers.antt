@@ -7,14 +7,14 @@ use Rattle.report.proofs.delega_text.Goals as goal
 pub returns-then-room-lt-ROOM : goal.returns-then-room-lt-ROOM
 returns-then-room-lt-ROOM c = printed-none (omega arith)
 
-pub returns-in-Accepted : goal.returns-in-Accepted
+pub returns-in-Ok : goal.returns-in-Ok
 unfolding delega_text
-returns-in-Accepted c =
-    rw (accepted-text c.args.answer.verdict _ c.in-Accepted.is)
+returns-in-Ok c =
+    rw (accepted-text c.args.answer.verdict _ c.in-Ok.is)
     (printed-all (omega arith) (omega arith) c.put_answered.ensures)
 
-pub returns-in-Refused : goal.returns-in-Refused
+pub returns-in-Err : goal.returns-in-Err
 unfolding delega_text
-returns-in-Refused c =
-    rw (refused-text c.args.answer.verdict _ c.in-Refused.is)
+returns-in-Err c =
+    rw (refused-text c.args.answer.verdict _ c.in-Err.is)
     (printed-all (omega arith) (omega arith) c.put_refused.ensures)

@@ -7,14 +7,14 @@ use Rattle.report.proofs.judgement_text.Goals as goal
 pub returns-then-room-lt-ROOM : goal.returns-then-room-lt-ROOM
 returns-then-room-lt-ROOM c = printed-none (omega arith)
 
-pub returns-in-Accepted : goal.returns-in-Accepted
+pub returns-in-Ok : goal.returns-in-Ok
 unfolding judgement_text
-returns-in-Accepted c =
-    rw (accepted-text c.args.j.verdict _ c.in-Accepted.is)
+returns-in-Ok c =
+    rw (accepted-text c.args.j.verdict _ c.in-Ok.is)
     (printed-all (omega arith) (omega arith) c.put_accepted.ensures)
 
-pub returns-in-Refused : goal.returns-in-Refused
+pub returns-in-Err : goal.returns-in-Err
 unfolding judgement_text
-returns-in-Refused c =
-    rw (refused-text c.args.j.verdict _ c.in-Refused.is)
+returns-in-Err c =
+    rw (refused-text c.args.j.verdict _ c.in-Err.is)
     (printed-all (omega arith) (omega arith) c.put_refused.ensures)

@@ -8,16 +8,16 @@ pub returns-then-answer-lt-EP_ROOM : goal.returns-then-answer-lt-EP_ROOM
 unfolding ep_code ep_room
 returns-then-answer-lt-EP_ROOM c = (short-code _ _ c.if-answer-lt-EP_ROOM.true, short-room _ _ c.if-answer-lt-EP_ROOM.true)
 
-pub returns-in-Accepted : goal.returns-in-Accepted
+pub returns-in-Ok : goal.returns-in-Ok
 unfolding ep_code ep_room
-returns-in-Accepted c =
-    let e = sym c.ep_judge.ensures ∙ c.in-Accepted.is in
+returns-in-Ok c =
+    let e = sym c.ep_judge.ensures ∙ c.in-Ok.is in
     let h = c.if-answer-lt-EP_ROOM.false in
     (long-code _ h (rw e), rw e (long-room _ _ h c.put.ensures))
 
-pub returns-in-Refused : goal.returns-in-Refused
+pub returns-in-Err : goal.returns-in-Err
 unfolding ep_code ep_room
-returns-in-Refused c =
-    let e = sym c.ep_judge.ensures ∙ c.in-Refused.is in
+returns-in-Err c =
+    let e = sym c.ep_judge.ensures ∙ c.in-Err.is in
     let h = c.if-answer-lt-EP_ROOM.false in
     (long-code _ h (rw e), rw e (long-room _ _ h c.put_refusal.ensures))

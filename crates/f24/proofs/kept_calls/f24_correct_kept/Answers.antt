@@ -3,7 +3,7 @@
 use mathlib.Core.Path.{refl, sym, ap, ◌∙◌}
 use native.Mathlib.Omega.{arith}
 use Rattle.correct.specs.Correction.{refusal_made}
-use Rattle.kept.specs.declared.CorrectionKept.{CorrectionKept}
+use Rattle.kept.specs.Answers.{CorrectionKept}
 use Rattle.kept.specs.Keeping.{correction_kept}
 use Rattle.kept.proofs.Answered.{correction-number}
 use Rattle.f24.specs.LinkedKept.{correct_kept_code, correct_kept_flow, correct_kept_record, correct_kept_answer}
@@ -19,20 +19,20 @@ pub returns-then-answer-lt-ANSWER_ROOM : goal.returns-then-answer-lt-ANSWER_ROOM
 unfolding correct_kept_code correct_kept_flow correct_kept_record correct_kept_answer
 returns-then-answer-lt-ANSWER_ROOM c = let a = c.args in rw (short-answer a.kept.now a.answer.now (omega (arith, c.if-kept-lt-SUMS_ROOM.false)) (omega (arith, c.if-answer-lt-ANSWER_ROOM.true))) (refl, refl, refl, refl)
 
-pub returns-in-Made : goal.returns-in-Made
+pub returns-in-Ok : goal.returns-in-Ok
 unfolding correct_kept_code correct_kept_flow correct_kept_record correct_kept_answer
-returns-in-Made c =
+returns-in-Ok c =
     let a = c.args in
     let long = long-enough a.kept.now a.answer.now (omega (arith, c.if-kept-lt-SUMS_ROOM.false)) (omega (arith, c.if-answer-lt-ANSWER_ROOM.false)) in
     let d = rw c.sums_at-sums.ensures at c.correct_kept-done.ensures in
-    let e = ap (λ (a : CorrectionKept). a.answer) (sym d.0) ∙ c.in-Made.is in
+    let e = ap (λ (a : CorrectionKept). a.answer) (sym d.0) ∙ c.in-Ok.is in
     beside-flow _ _ long _ _ _ _ d.1 (done-leaves _ _ long _ _ _ (ap refusal_made e) (ap (λ (a : CorrectionKept). a.kept) d.0) c.put_sums.ensures (sym (overlay-none _)))
 
-pub returns-in-Refused : goal.returns-in-Refused
+pub returns-in-Err : goal.returns-in-Err
 unfolding correct_kept_code correct_kept_flow correct_kept_record correct_kept_answer correction_kept
-returns-in-Refused c =
+returns-in-Err c =
     let a = c.args in
     let long = long-enough a.kept.now a.answer.now (omega (arith, c.if-kept-lt-SUMS_ROOM.false)) (omega (arith, c.if-answer-lt-ANSWER_ROOM.false)) in
     let d = rw c.sums_at-sums.ensures at c.correct_kept-done.ensures in
-    let e = ap (λ (a : CorrectionKept). a.answer) (sym d.0) ∙ c.in-Refused.is in
+    let e = ap (λ (a : CorrectionKept). a.answer) (sym d.0) ∙ c.in-Err.is in
     beside-flow _ _ long _ _ _ _ d.1 (refused-leaves _ _ long _ _ _ _ _ _ (ap refusal_made e) (correction-number _ _ _ _ _ _ _ e) c.put_refusal.ensures)

@@ -3,7 +3,7 @@
 use mathlib.Core.Path.{refl, sym, ap, ◌∙◌}
 use native.Mathlib.Omega.{arith}
 use Rattle.dropping.specs.Dropping.{refusal_dropped}
-use Rattle.kept.specs.declared.DroppingKept.{DroppingKept}
+use Rattle.kept.specs.Answers.{DroppingKept}
 use Rattle.kept.specs.Keeping.{dropping_kept}
 use Rattle.kept.proofs.Answered.{dropping-number}
 use Rattle.f24.specs.LinkedKept.{drop_kept_code, drop_kept_flow, drop_kept_record, drop_kept_answer}
@@ -18,20 +18,20 @@ pub returns-then-answer-lt-ANSWER_ROOM : goal.returns-then-answer-lt-ANSWER_ROOM
 unfolding drop_kept_code drop_kept_flow drop_kept_record drop_kept_answer
 returns-then-answer-lt-ANSWER_ROOM c = let a = c.args in rw (short-answer a.kept.now a.answer.now (omega (arith, c.if-kept-lt-SUMS_ROOM.false)) (omega (arith, c.if-answer-lt-ANSWER_ROOM.true))) (refl, refl, refl, refl)
 
-pub returns-in-Dropped : goal.returns-in-Dropped
+pub returns-in-Ok : goal.returns-in-Ok
 unfolding drop_kept_code drop_kept_flow drop_kept_record drop_kept_answer
-returns-in-Dropped c =
+returns-in-Ok c =
     let a = c.args in
     let long = long-enough a.kept.now a.answer.now (omega (arith, c.if-kept-lt-SUMS_ROOM.false)) (omega (arith, c.if-answer-lt-ANSWER_ROOM.false)) in
     let d = rw c.sums_at-sums.ensures at c.drop_kept-done.ensures in
-    let e = ap (λ (a : DroppingKept). a.answer) (sym d.0) ∙ c.in-Dropped.is in
+    let e = ap (λ (a : DroppingKept). a.answer) (sym d.0) ∙ c.in-Ok.is in
     beside-flow _ _ long _ _ _ _ d.1 (done-leaves _ _ long _ _ _ (ap refusal_dropped e) (ap (λ (a : DroppingKept). a.kept) d.0) c.put_sums.ensures (rw e c.put.ensures))
 
-pub returns-in-Refused : goal.returns-in-Refused
+pub returns-in-Err : goal.returns-in-Err
 unfolding drop_kept_code drop_kept_flow drop_kept_record drop_kept_answer dropping_kept
-returns-in-Refused c =
+returns-in-Err c =
     let a = c.args in
     let long = long-enough a.kept.now a.answer.now (omega (arith, c.if-kept-lt-SUMS_ROOM.false)) (omega (arith, c.if-answer-lt-ANSWER_ROOM.false)) in
     let d = rw c.sums_at-sums.ensures at c.drop_kept-done.ensures in
-    let e = ap (λ (a : DroppingKept). a.answer) (sym d.0) ∙ c.in-Refused.is in
+    let e = ap (λ (a : DroppingKept). a.answer) (sym d.0) ∙ c.in-Err.is in
     beside-flow _ _ long _ _ _ _ d.1 (refused-leaves _ _ long _ _ _ _ _ _ (ap refusal_dropped e) (dropping-number _ _ _ e) c.put_refusal.ensures)

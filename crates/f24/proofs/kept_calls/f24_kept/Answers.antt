@@ -18,12 +18,12 @@ pub returns-then-answer-lt-ANSWER_ROOM : goal.returns-then-answer-lt-ANSWER_ROOM
 unfolding kept_code kept_record kept_answer
 returns-then-answer-lt-ANSWER_ROOM c = let a = c.args in rw (short-answer a.kept.now a.answer.now (omega (arith, c.if-kept-lt-SUMS_ROOM.false)) (omega (arith, c.if-answer-lt-ANSWER_ROOM.true))) (refl, refl, refl)
 
-pub returns-in-Refused : goal.returns-in-Refused
+pub returns-in-Err : goal.returns-in-Err
 unfolding kept_code kept_record kept_answer keeping
-returns-in-Refused c =
+returns-in-Err c =
     let a = c.args in
     let long = long-enough a.kept.now a.answer.now (omega (arith, c.if-kept-lt-SUMS_ROOM.false)) (omega (arith, c.if-answer-lt-ANSWER_ROOM.false)) in
-    let e = ap (λ (k : Keeping). k.verdict) (sym c.keep-made.ensures) ∙ c.in-Refused.is in
+    let e = ap (λ (k : Keeping). k.verdict) (sym c.keep-made.ensures) ∙ c.in-Err.is in
     refused-leaves _ _ long _ _ _ _ _ _ (ap refusal_of e) (judgement-number _ e).0 c.put_refusal.ensures
 
 pub returns : goal.returns

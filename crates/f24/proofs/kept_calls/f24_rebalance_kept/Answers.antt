@@ -3,7 +3,7 @@
 use mathlib.Core.Path.{refl, sym, ap, ◌∙◌}
 use native.Mathlib.Omega.{arith}
 use Rattle.mend.specs.Mending.{refusal_mended}
-use Rattle.kept.specs.declared.MendingKept.{MendingKept}
+use Rattle.kept.specs.Answers.{MendingKept}
 use Rattle.kept.specs.Keeping.{mending_kept}
 use Rattle.kept.proofs.Answered.{mending-number}
 use Rattle.f24.specs.LinkedKept.{rebalance_kept_code, rebalance_kept_flow, rebalance_kept_list, rebalance_kept_record, rebalance_kept_answer}
@@ -18,20 +18,20 @@ pub returns-then-answer-lt-ANSWER_ROOM : goal.returns-then-answer-lt-ANSWER_ROOM
 unfolding rebalance_kept_code rebalance_kept_flow rebalance_kept_list rebalance_kept_record rebalance_kept_answer
 returns-then-answer-lt-ANSWER_ROOM c = let a = c.args in rw (short-answer a.kept.now a.answer.now (omega (arith, c.if-kept-lt-SUMS_ROOM.false)) (omega (arith, c.if-answer-lt-ANSWER_ROOM.true))) (refl, refl, refl, refl, refl)
 
-pub returns-in-Mended : goal.returns-in-Mended
+pub returns-in-Ok : goal.returns-in-Ok
 unfolding rebalance_kept_code rebalance_kept_flow rebalance_kept_list rebalance_kept_record rebalance_kept_answer
-returns-in-Mended c =
+returns-in-Ok c =
     let a = c.args in
     let long = long-enough a.kept.now a.answer.now (omega (arith, c.if-kept-lt-SUMS_ROOM.false)) (omega (arith, c.if-answer-lt-ANSWER_ROOM.false)) in
     let d = rw c.sums_at-sums.ensures at c.rebalance_kept-done.ensures in
-    let e = ap (λ (a : MendingKept). a.answer) (sym d.0) ∙ c.in-Mended.is in
+    let e = ap (λ (a : MendingKept). a.answer) (sym d.0) ∙ c.in-Ok.is in
     beside-list _ _ long _ _ _ _ _ d.1 d.2 (done-leaves _ _ long _ _ _ (ap refusal_mended e) (ap (λ (a : MendingKept). a.kept) d.0) c.put_sums.ensures (rw e c.put.ensures))
 
-pub returns-in-Refused : goal.returns-in-Refused
+pub returns-in-Err : goal.returns-in-Err
 unfolding rebalance_kept_code rebalance_kept_flow rebalance_kept_list rebalance_kept_record rebalance_kept_answer mending_kept
-returns-in-Refused c =
+returns-in-Err c =
     let a = c.args in
     let long = long-enough a.kept.now a.answer.now (omega (arith, c.if-kept-lt-SUMS_ROOM.false)) (omega (arith, c.if-answer-lt-ANSWER_ROOM.false)) in
     let d = rw c.sums_at-sums.ensures at c.rebalance_kept-done.ensures in
-    let e = ap (λ (a : MendingKept). a.answer) (sym d.0) ∙ c.in-Refused.is in
+    let e = ap (λ (a : MendingKept). a.answer) (sym d.0) ∙ c.in-Err.is in
     beside-list _ _ long _ _ _ _ _ d.1 d.2 (refused-leaves _ _ long _ _ _ _ _ _ (ap refusal_mended e) (mending-number _ _ _ e) c.put_refusal.ensures)
