@@ -103,7 +103,7 @@ fn total_in(rec: &[u8]) -> Option<u64>
     ep_total::read_total(&rec[TOTAL_START..TOTAL_END])
 }
 
-// A failed check: its number, and the number of the record that it is told of.
+// The refusal that a failed check is: its number, the number of the record that it is told of, and position 0.
 fn refused(number: u64, at: usize) -> Refusal
     ensures { result ≡ refusal number at 0 }
 {
