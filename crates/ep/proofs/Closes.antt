@@ -1,12 +1,15 @@
 -- What is judged behind the last V of an M, case by case.
 use Prim.Native.Nat.{ℕ}
-use mathlib.Core.Path.{◌≡◌}
-use mathlib.Core.Bool.{true, false}
+use mathlib.Core.Path.{◌≡◌, refl}
+use mathlib.Core.Bool.{Bool, true, false, cond}
 use borrow.Author.Tests.{eq-eqb, ne_eqb}
-use Rattle.ep_total.specs.Answers.{Cents, NoTotal}
+use lib.Dec.{eqb}
+use Rattle.std.specs.Prelude.{Some}
+use Rattle.std.specs.Option.{option_eq}
+use Rattle.ep_total.specs.Answers.{Total, Cents, NoTotal}
 use Rattle.ep.specs.Answers.{Pass, Fault}
 use Rattle.ep.specs.declared.Tally.{Tally}
-use Rattle.ep.specs.Payments.{closing}
+use Rattle.ep.specs.Payments.{states, closing}
 
 module _ (t : Tally) (n : ℕ) where
   -- No M stands open.
@@ -36,3 +39,13 @@ module _ (t : Tally) (n : ℕ) where
         pub misstated : (v ≡ t.own → ⊥) → closing t n ≡ Fault 33 t.at
         unfolding closing
         misstated q = rw (ne_eqb _ _ o, f, e, ne_eqb _ _ q)
+
+-- Whether a total is the number that it is held against.
+pub states-eq : (o : Total) (s : ℕ) → option_eq eqb o (Some s) ≡ states o s
+states-eq (Cents n) s = refl
+states-eq NoTotal s = refl
+
+-- An M with a V, whether its total is the sum or not.
+pub closing-by : (t : Tally) (n : ℕ) → (t.count ≡ 0 → ⊥) → t.followed ≡ true → (b : Bool) → states t.total t.own ≡ b → closing t n ≡ cond b Pass (Fault 33 t.at)
+unfolding closing
+closing-by t n o f b e = rw (ne_eqb _ _ o, f, e)

@@ -1,11 +1,13 @@
 -- What pieces come to, put together from what the code works out.
 use Prim.Native.Nat.{ℕ, ◌+◌, ◌<◌, ◌≤◌}
-use mathlib.Core.Path.{◌≡◌, sym, ap, ◌∙◌}
-use mathlib.Core.Bool.{true, false}
+use mathlib.Core.Path.{◌≡◌, refl, sym, ap, ◌∙◌}
+use mathlib.Core.Bool.{true, false, false≢true}
 use mathlib.Core.List.{List}
 use borrow.Author.Tests.{eq-eqb, ne_eqb, lt-ltb, le-ltb}
 use lib.ListN.{length}
-use Rattle.ep.specs.Answers.{Outcome, Pass, Fault, Refused}
+use Rattle.std.specs.Prelude.{Err}
+use Rattle.std.specs.Result.{is_err}
+use Rattle.ep.specs.Answers.{Outcome, Pass, Refused}
 use Rattle.ep.specs.declared.Tally.{Tally}
 use Rattle.ep.specs.declared.Step.{Step}
 use Rattle.ep.specs.declared.Course.{Course}
@@ -21,13 +23,22 @@ module _ (c : Course) (r : List ℕ) where
   course-by o e = ap (λ (p : Outcome). record { fits = true; records = c.records + 1; tally = tally_by p c.tally r; outcome = outcome_by p c.tally r }) e
 
   -- Behind a fault a record is only counted.
-  pub counted-behind : (n k : ℕ) → c.outcome ≡ Fault n k → record { fits = true; records = c.records + 1; tally = c.tally; outcome = Fault n k } ≡ counted c r
-  counted-behind n k e = sym (course-by (Fault n k) e)
+  pub counted-behind : is_err c.outcome ≡ true → record { fits = true; records = c.records + 1; tally = c.tally; outcome = c.outcome } ≡ counted c r
+  counted-behind h = go c.outcome h ∙ sym (course-by c.outcome refl)
+    where
+      go : (o : Outcome) → is_err o ≡ true → ◌≡◌ {A = Course} (record { fits = true; records = c.records + 1; tally = c.tally; outcome = o }) (record { fits = true; records = c.records + 1; tally = tally_by o c.tally r; outcome = outcome_by o c.tally r })
+      go Pass h = absurd (false≢true h)
+      go (Err why) h = refl
+
+  -- No fault is a pass.
+  no_fault : (o : Outcome) → is_err o ≡ false → o ≡ Pass
+  no_fault Pass h = refl
+  no_fault (Err why) h = absurd (false≢true (sym h))
 
   -- Before one it is judged.
-  pub counted-judged : c.outcome ≡ Pass → (d : Step) → d ≡ stepped c.tally r → record { fits = true; records = c.records + 1; tally = d.tally; outcome = d.outcome } ≡ counted c r
+  pub counted-judged : is_err c.outcome ≡ false → (d : Step) → d ≡ stepped c.tally r → record { fits = true; records = c.records + 1; tally = d.tally; outcome = d.outcome } ≡ counted c r
   unfolding stepped
-  counted-judged e d f = ap (λ (x : Step). record { fits = true; records = c.records + 1; tally = x.tally; outcome = x.outcome }) f ∙ sym (course-by Pass e)
+  counted-judged h d f = let e = no_fault c.outcome h in ap (λ (x : Step). record { fits = true; records = c.records + 1; tally = x.tally; outcome = x.outcome }) f ∙ sym (course-by Pass e)
 
   -- What a piece comes to, by the tests of the code.
   pub took-unfit : c.fits ≡ false → unfit c ≡ took c r

@@ -5,6 +5,8 @@ use mathlib.Core.Bool.{Bool, true, false}
 use mathlib.Core.List.{List, [], ◌∷◌, append-nil}
 use native.Mathlib.Omega.{arith}
 use lib.ListN.{length}
+use Rattle.refusal.proofs.Parts.{refused-parts}
+use Rattle.ep.specs.declared.Payments.{Payments}
 use Rattle.ep.specs.Answers.{Outcome, EpAnswer, Accepted, Refused}
 use Rattle.ep.specs.Payments.{no_tally, here, unless, ended, judged_from, records_in, size_right, judged}
 use Rattle.ep.specs.Plain.{count_m, used_in, totals_in, Paid, Stops, early, unknown, alone, no-digits, no-sum, no-total, records_of, Sized}
@@ -46,7 +48,9 @@ module _ (s : List ℕ) where
   accepted-paid c n e = go (size_right (length s)) refl
     where
       by : {a : EpAnswer} → Told (records_of s) a → a ≡ Accepted c n → Paid (records_of s) × (c ≡ count_m (records_of s)) × (n ≡ used_in (records_of s))
-      by (accepted p) q = (p, cc, cc)
+      by (accepted p) q =
+          let same : ◌≡◌ {A = Payments} (record { count = count_m (records_of s); sum = used_in (records_of s) }) (record { count = c; sum = n }) = cc in
+          (p, ap (λ (a : Payments). a.count) (sym same), ap (λ (a : Payments). a.sum) (sym same))
       by (refused t) q = let z : ◌≡◌ {A = ℕ} 0 1 = cc in absurd (omega arith)
 
       go : (b : Bool) → size_right (length s) ≡ b → Sized (length s) × Paid (records_of s) × (c ≡ count_m (records_of s)) × (n ≡ used_in (records_of s))
@@ -63,10 +67,7 @@ module _ (s : List ℕ) where
     where
       by : {a : EpAnswer} → Told (records_of s) a → a ≡ Refused e k p → Stops (records_of s) e k × (p ≡ 0)
       by (accepted w) f = let z : ◌≡◌ {A = ℕ} 0 1 = cc in absurd (omega arith)
-      by (refused {e = d} {k = j} t) f =
-          let ed : d ≡ e = cc in
-          let jk : j ≡ k = cc in
-          (rw (← ed, ← jk) t, cc)
+      by (refused t) f = let same = refused-parts f in (rw (← same.0, ← same.1) t, sym same.2)
 
   -- "Refusals, for this form alone": 30 to 33, "and position 0".
   pub refused-number : (e k p : ℕ) → judged s ≡ Refused e k p → (30 ≤ e) × (e ≤ 33) × (p ≡ 0)
@@ -82,4 +83,4 @@ module _ (s : List ℕ) where
 
       go : (b : Bool) → size_right (length s) ≡ b → (30 ≤ e) × (e ≤ 33) × (p ≡ 0)
       go true b = let f = refused-first (size-sized (length s) b) e k p q in let n = by f.0 in (n.0, n.1, f.1)
-      go false b = let z : Refused 30 0 0 ≡ Refused e k p = sym (judged-30 s b) ∙ q in let n : 30 ≡ e = cc in (omega arith, omega arith, cc)
+      go false b = let z : Refused 30 0 0 ≡ Refused e k p = sym (judged-30 s b) ∙ q in let same = refused-parts z in (omega (arith, same.0), omega (arith, same.0), sym same.2)

@@ -8,7 +8,9 @@ use borrow.Author.Tests.{eq-eqb, ne_eqb, le-ltb, eqb-true, eqb-false, ltb-false}
 use lib.Dec.{eqb, ltb}
 use lib.ListN.{length, take, drop}
 use lib.Seq.{drop-drop}
-use Rattle.ep.specs.Answers.{Outcome, Pass, Fault, Refused}
+use Rattle.std.specs.Prelude.{Err}
+use Rattle.refusal.specs.declared.Refusal.{Refusal}
+use Rattle.ep.specs.Answers.{Outcome, Pass, Refused}
 use Rattle.ep.specs.declared.Tally.{Tally}
 use Rattle.ep.specs.declared.Step.{Step}
 use Rattle.text.proofs.Bytes.{part_length}
@@ -66,10 +68,10 @@ module _ (t : Tally) (r : List ℕ) (rs : List (List ℕ)) (d : Step) (e : d ≡
       ap (λ (o : Outcome). unless o (judged_from (next t r) rs)) f ∙ ap (λ (u : Tally). judged_from u rs) (sym (ap (λ (x : Step). x.tally) e))
 
   -- The first fault ends it.
-  pub judged-stop : (n k : ℕ) → d.outcome ≡ Fault n k → judged_from t (r ∷ rs) ≡ Refused n k 0
+  pub judged-stop : (w : Refusal) → d.outcome ≡ Err w → judged_from t (r ∷ rs) ≡ Err w
   unfolding judged_from stepped
-  judged-stop n k p =
-      let f : fault t r ≡ Fault n k = sym (ap (λ (x : Step). x.outcome) e) ∙ p in
+  judged-stop w p =
+      let f : fault t r ≡ Err w = sym (ap (λ (x : Step). x.outcome) e) ∙ p in
       ap (λ (o : Outcome). unless o (judged_from (next t r) rs)) f
 
   pub step-next : d.tally ≡ next t r
@@ -98,8 +100,8 @@ module _ (s : List ℕ) (n i : ℕ) (h : i < n) (t : Tally) (d : Step) (e : d �
   pub turn_on : d.outcome ≡ Pass → judged_from t (records_in (n - i) (drop (i * 1900) s)) ≡ judged_from d.tally (records_in (n - (i + 1)) (drop ((i + 1) * 1900) s))
   turn_on p = ap (judged_from t) (record-on s n i h) ∙ judged-on t (take 1900 (drop (i * 1900) s)) _ d is p
 
-  pub turn-stops : (m k : ℕ) → d.outcome ≡ Fault m k → judged_from t (records_in (n - i) (drop (i * 1900) s)) ≡ Refused m k 0
-  turn-stops m k p = ap (judged_from t) (record-on s n i h) ∙ judged-stop t (take 1900 (drop (i * 1900) s)) _ d is m k p
+  pub turn-stops : (w : Refusal) → d.outcome ≡ Err w → judged_from t (records_in (n - i) (drop (i * 1900) s)) ≡ Err w
+  turn-stops w p = ap (judged_from t) (record-on s n i h) ∙ judged-stop t (take 1900 (drop (i * 1900) s)) _ d is w p
 
   pub turn_small : n * 1900 ≤ length s → Small t → t.seen < 10000 → Small d.tally
   turn_small l a g = rw (step-next t (take 1900 (drop (i * 1900) s)) [] d is) (small-next t _ (part_length 1900 (i * 1900) s (omega arith)) a g)

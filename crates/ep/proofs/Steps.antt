@@ -4,6 +4,7 @@ use mathlib.Core.Path.{◌≡◌, refl, sym, ap, ◌∙◌}
 use mathlib.Core.List.{List}
 use native.Mathlib.Omega.{arith}
 use lib.ListN.{length}
+use Rattle.std.specs.Result.{result_unwrap_or}
 use Rattle.ep_total.specs.Answers.{Total}
 use Rattle.ep_accounts.specs.Answers.{Accounts, Sum, NonDigit, Unequal}
 use Rattle.ep_accounts.specs.Accounts.{accounts_in}
@@ -40,6 +41,12 @@ pub added-below : (r : List ℕ) → length r ≡ 1900 → (a : Accounts) → a 
 added-below r l (Sum s) e = sum_below r s l (sym e)
 added-below r l NonDigit e = omega arith
 added-below r l Unequal e = omega arith
+
+-- What a V adds is its sum, where it has one.
+pub added-or : (a : Accounts) → result_unwrap_or a 0 ≡ added a
+added-or (Sum s) = refl
+added-or NonDigit = refl
+added-or Unequal = refl
 
 -- The record that comes next is counted.
 pub seen_next : (t : Tally) (r : List ℕ) → (next t r).seen ≡ t.seen + 1

@@ -11,7 +11,7 @@ use lib.Dec.{eqb, ltb}
 use lib.ListN.{length, length-append, take, drop, length-drop, take-append-drop}
 use lib.Seq.{take_at, drop_at}
 use Rattle.text.proofs.Bytes.{part_length}
-use Rattle.ep.specs.Answers.{Outcome, Pass, Fault, Refused}
+use Rattle.ep.specs.Answers.{Outcome, Pass, Refused}
 use Rattle.ep.specs.declared.Course.{Course}
 use Rattle.ep.specs.Payments.{no_tally, fault, next, unless, judged_from, records_in, size_right, judged}
 use Rattle.ep.specs.Stream.{start_course, unfit, tally_by, outcome_by, counted, took, answered, took_all, joined, Cut}

@@ -4,7 +4,7 @@ use Rattle.refusal.specs.declared.Refusal.{Refusal}
 use Rattle.refusal.specs.Refusals.{refusal}
 use Rattle.ep.specs.declared.Payments.{Payments}
 
--- a record passes, or the first failed check, with its number and the number of the record that it is told of
+-- a record passes, or has a failed check, which is told by its number, "with the record's number and position 0"
 abbrev pub Outcome : Type 0
 Outcome = Result Unit Refusal
 

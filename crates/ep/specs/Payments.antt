@@ -91,10 +91,10 @@ next t r = next_by (kind_of r) t r
 unfoldable pub stepped : Tally → List ℕ → Step
 stepped t r = record { tally = next t r; outcome = fault t r }
 
--- "with the record's number and position 0"
+-- a failed check is the refusal, "with the record's number and position 0"
 abbrev pub unless : Outcome → EpAnswer → EpAnswer
 unless Pass a = a
-unless (Err why) a = Refused why.number why.«record» 0
+unless (Err why) a = Err why
 
 -- "Acceptance answers the count of M and the sum of their totals", once the last M is closed
 unfoldable pub ended : Tally → EpAnswer

@@ -1,6 +1,6 @@
 -- Serves inner functions. The records as they are read, piece by piece, and the answer at the end: the theorem `streamed` says that it is that of all the bytes read.
 use Rattle.std.specs.Prelude.{ℕ, ◌+◌, ◌<◌, ◌≤◌, Bool, true, false, cond, List, [], ◌∷◌, ◌++◌, ◌≡◌, eqb, ltb, length, Err}
-use Rattle.ep.specs.Answers.{Outcome, Pass, Fault, EpAnswer, Refused}
+use Rattle.ep.specs.Answers.{Outcome, Pass, EpAnswer, Refused}
 use Rattle.ep.specs.declared.Tally.{Tally}
 use Rattle.ep.specs.declared.Course.{Course}
 use Rattle.ep.specs.Payments.{no_tally, fault, next, unless, ended}

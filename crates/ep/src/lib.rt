@@ -4,12 +4,13 @@
 mod stream;
 
 ghost use Rattle.std.specs.Prelude.{◌≡◌, ◌<◌, length};
+ghost use Rattle.refusal.specs.Refusals.{refusal};
 ghost use Rattle.ep.specs.Payments.{kind_of, total_in, no_tally, closing, accounts_fault, v_fault, after_other, added, with_accounts, with_payment, with_other, stepped, ended, size_right, judged};
 ghost use Rattle.ep.specs.declared.Kind.TheVariants.{RecordM, RecordV, OtherRecord};
 ghost use Rattle.ep.specs.Bounds.{Small};
 
-use ep_accounts::{Accounts, RECORD};
-use ep_total::Total;
+use ep_accounts::{AccountsError, RECORD};
+use refusal::Refusal;
 pub use stream::{answered, start, take};
 
 // The most records, and the most bytes that they have.
@@ -30,18 +31,11 @@ pub enum Kind {
     OtherRecord,
 }
 
-// The first failed check, its number and the number of the record that it is told of, or none.
-#[derive(Clone, Copy)]
-pub enum Outcome {
-    Pass,
-    Fault(u64, usize),
-}
-
-// The answer: the count of M and the sum of their totals, or number, record and position of the refusal.
-#[derive(Clone, Copy)]
-pub enum EpAnswer {
-    Accepted(u64, u64),
-    Refused(u64, usize, usize),
+// What is answered of records that break no check: the count of M and the sum of their totals.
+#[derive(Clone, Copy, PartialEq, Eq)]
+pub struct Payments {
+    pub count: u64,
+    pub sum: u64,
 }
 
 // What the records so far have established: how many they are, how many of them are M and what all V add up to; and of the last M its number, whether a V has
@@ -54,14 +48,14 @@ pub struct Tally {
     pub at: usize,
     pub followed: bool,
     pub own: u64,
-    pub total: Total,
+    pub total: Option<u64>,
 }
 
 // What a record comes to.
 #[derive(Clone, Copy)]
 pub struct Step {
     pub tally: Tally,
-    pub outcome: Outcome,
+    pub outcome: Result<(), Refusal>,
 }
 
 // What pieces of the records, one behind the other, have come to: whether their lengths are those of records and they are not too many, how many they are, the first fault and, up to
@@ -71,7 +65,7 @@ pub struct Course {
     pub fits: bool,
     pub records: usize,
     pub tally: Tally,
-    pub outcome: Outcome,
+    pub outcome: Result<(), Refusal>,
 }
 
 // Before the first record.
@@ -85,7 +79,7 @@ fn no_tally() -> Tally
         at: 0,
         followed: false,
         own: 0,
-        total: Total::NoTotal,
+        total: None,
     }
 }
 
@@ -102,61 +96,57 @@ fn kind_of(rec: &[u8]) -> Kind
 }
 
 // The total of an M.
-fn total_in(rec: &[u8]) -> Total
+fn total_in(rec: &[u8]) -> Option<u64>
     requires { length rec.now ≡ 1900 }
     ensures { result ≡ total_in rec.now }
 {
     ep_total::read_total(&rec[TOTAL_START..TOTAL_END])
 }
 
+// The refusal that a failed check is: its number, the number of the record that it is told of, and position 0.
+fn refused(number: u64, at: usize) -> Refusal
+    ensures { result ≡ refusal number at 0 }
+{
+    Refusal {
+        number,
+        record: at,
+        position: 0,
+    }
+}
+
 // What is judged right behind the last V of an M, before the record with this number: that there was one, and the total.
-fn closing(tally: Tally, behind: usize) -> Outcome
+fn closing(tally: Tally, behind: usize) -> Result<(), Refusal>
     ensures { result ≡ closing tally behind }
 {
     if tally.count == 0 {
-        return Outcome::Pass;
+        return Ok(());
     }
     if !tally.followed {
-        return Outcome::Fault(31, behind);
+        return Err(refused(31, behind));
     }
-    let total = tally.total;
-    let Total::Cents(stated) = total else {
-        return Outcome::Fault(33, tally.at);
-    };
-    if stated == tally.own {
-        return Outcome::Pass;
+    if tally.total == Some(tally.own) {
+        return Ok(());
     }
-    Outcome::Fault(33, tally.at)
+    Err(refused(33, tally.at))
 }
 
 // The fault of a V by its accounts.
-fn accounts_fault(here: usize, accounts: Accounts) -> Outcome
+fn accounts_fault(here: usize, accounts: Result<u64, AccountsError>) -> Result<(), Refusal>
     ensures { result ≡ accounts_fault here accounts }
 {
     match accounts {
-        Accounts::Sum(_) => Outcome::Pass,
-        Accounts::NonDigit => Outcome::Fault(32, here),
-        Accounts::Unequal => Outcome::Fault(33, here),
-    }
-}
-
-// What a V adds.
-fn added(accounts: Accounts) -> u64
-    ensures { result ≡ added accounts }
-{
-    match accounts {
-        Accounts::Sum(sum) => sum,
-        Accounts::NonDigit => 0,
-        Accounts::Unequal => 0,
+        Ok(_) => Ok(()),
+        Err(AccountsError::NonDigit) => Err(refused(32, here)),
+        Err(AccountsError::Unequal) => Err(refused(33, here)),
     }
 }
 
 // What is established with a V.
-fn with_accounts(tally: Tally, accounts: Accounts) -> Tally
+fn with_accounts(tally: Tally, accounts: Result<u64, AccountsError>) -> Tally
     requires { Small tally × (tally.seen < 10000) × (added accounts < 1000000000000000) }
     ensures { result ≡ with_accounts tally accounts }
 {
-    let more = added(accounts);
+    let more = accounts.unwrap_or(0);
     Tally {
         seen: tally.seen + 1,
         sum: tally.sum + more,
@@ -167,7 +157,7 @@ fn with_accounts(tally: Tally, accounts: Accounts) -> Tally
 }
 
 // What is established with an M.
-fn with_payment(tally: Tally, total: Total) -> Tally
+fn with_payment(tally: Tally, total: Option<u64>) -> Tally
     requires { Small tally × (tally.seen < 10000) }
     ensures { result ≡ with_payment tally total }
 {
@@ -195,25 +185,23 @@ fn with_other(tally: Tally) -> Tally
 }
 
 // The fault of a V: it belongs to an M, and its accounts are right.
-fn v_fault(tally: Tally, accounts: Accounts) -> Outcome
+fn v_fault(tally: Tally, accounts: Result<u64, AccountsError>) -> Result<(), Refusal>
     requires { tally.seen < 10000 }
     ensures { result ≡ v_fault tally accounts }
 {
     let here = tally.seen + 1;
     if tally.count == 0 {
-        return Outcome::Fault(31, here);
+        return Err(refused(31, here));
     }
     accounts_fault(here, accounts)
 }
 
 // The fault of a record that is neither M nor V, behind what is judged before it.
-fn after_other(here: usize, before: Outcome) -> Outcome
+fn after_other(here: usize, before: Result<(), Refusal>) -> Result<(), Refusal>
     ensures { result ≡ after_other here before }
 {
-    match before {
-        Outcome::Pass => Outcome::Fault(31, here),
-        Outcome::Fault(number, at) => Outcome::Fault(number, at),
-    }
+    before?;
+    Err(refused(31, here))
 }
 
 // An M.
@@ -261,15 +249,15 @@ fn step_by(tally: Tally, rec: &[u8]) -> Step
 }
 
 // The answer where no record is left.
-fn ended(tally: Tally) -> EpAnswer
+fn ended(tally: Tally) -> Result<Payments, Refusal>
     requires { Small tally }
     ensures { result ≡ ended tally }
 {
-    let outcome = closing(tally, tally.seen + 1);
-    match outcome {
-        Outcome::Pass => EpAnswer::Accepted(tally.count, tally.sum),
-        Outcome::Fault(number, at) => EpAnswer::Refused(number, at, 0),
-    }
+    closing(tally, tally.seen + 1)?;
+    Ok(Payments {
+        count: tally.count,
+        sum: tally.sum,
+    })
 }
 
 // Whether so many bytes are records, one at least and not too many.
@@ -279,22 +267,19 @@ fn size_right(len: usize) -> bool
     len != 0 && len <= MOST_BYTES && len % RECORD == 0
 }
 
-// Judges the records of the form.
-pub fn ep_judge(records: &[u8]) -> EpAnswer
+// Judges the records of the form: what they pay, or the refusal.
+pub fn ep_judge(records: &[u8]) -> Result<Payments, Refusal>
     ensures { result ≡ judged records.now }
 {
     if !size_right(records.len()) {
-        return EpAnswer::Refused(30, 0, 0);
+        return Err(Refusal::NO_FORM_RECORDS);
     }
     let count = records.len() / RECORD;
     let mut tally = no_tally();
     for i in 0..count {
         let at = i * RECORD;
         let done = step_by(tally, &records[at..at + RECORD]);
-        let outcome = done.outcome;
-        if let Outcome::Fault(number, record) = outcome {
-            return EpAnswer::Refused(number, record, 0);
-        }
+        done.outcome?;
         tally = done.tally;
     }
     ended(tally)

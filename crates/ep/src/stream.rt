@@ -4,8 +4,9 @@ ghost use Rattle.std.specs.Prelude.{◌≡◌, ◌<◌, length};
 ghost use Rattle.ep.specs.Stream.{start_course, unfit, counted, took, answered};
 ghost use Rattle.ep.specs.Bounds.{Sound};
 
-use crate::{Course, EpAnswer, MOST_RECORDS, Outcome, ended, no_tally, step_by};
+use crate::{Course, MOST_RECORDS, Payments, ended, no_tally, step_by};
 use ep_accounts::RECORD;
+use refusal::Refusal;
 
 // Before the first piece.
 pub fn start() -> Course
@@ -15,7 +16,7 @@ pub fn start() -> Course
         fits: true,
         records: 0,
         tally: no_tally(),
-        outcome: Outcome::Pass,
+        outcome: Ok(()),
     }
 }
 
@@ -35,17 +36,14 @@ fn counted(course: Course, rec: &[u8]) -> Course
     ensures { result ≡ counted course rec.now }
 {
     let records = course.records + 1;
-    let tally = course.tally;
-    let outcome = course.outcome;
-    if let Outcome::Fault(number, at) = outcome {
+    if course.outcome.is_err() {
         return Course {
             fits: true,
             records,
-            tally,
-            outcome: Outcome::Fault(number, at),
+            ..course
         };
     }
-    let done = step_by(tally, rec);
+    let done = step_by(course.tally, rec);
     Course {
         fits: true,
         records,
@@ -67,19 +65,13 @@ pub fn take(course: Course, piece: &[u8]) -> Course
 }
 
 // The answer where no piece is left.
-pub fn answered(course: Course) -> EpAnswer
+pub fn answered(course: Course) -> Result<Payments, Refusal>
     requires { Sound course }
     ensures { result ≡ answered course }
 {
-    if !course.fits {
-        return EpAnswer::Refused(30, 0, 0);
+    if !course.fits || course.records == 0 {
+        return Err(Refusal::NO_FORM_RECORDS);
     }
-    if course.records == 0 {
-        return EpAnswer::Refused(30, 0, 0);
-    }
-    let outcome = course.outcome;
-    if let Outcome::Fault(number, at) = outcome {
-        return EpAnswer::Refused(number, at, 0);
-    }
+    course.outcome?;
     ended(course.tally)
 }

@@ -1,6 +1,7 @@
 use Prim.Native.Nat.{ℕ, ◌+◌}
 use mathlib.Core.Path.{sym, ap, ◌∙◌}
 use native.Mathlib.Omega.{arith}
+use Rattle.refusal.proofs.Handed.{handed_on}
 use Rattle.ep.specs.declared.Tally.{Tally}
 use Rattle.ep.specs.Payments.{judged_from}
 use Rattle.ep.proofs.Steps.{small-start}
@@ -30,8 +31,9 @@ step_by-done-requires c =
     let l = c.loop-i in
     (part-is l.i _ (omega (arith, l.invariant.1)), l.invariant.2, omega (arith, l.invariant.0, l.invariant.3))
 
-pub returns-in-Fault : goal.returns-in-Fault
-returns-in-Fault c = sym (c.loop-i.invariant.4 ∙ turn-stops _ _ _ c.loop-i-test.true _ _ c.step_by-done.ensures _ _ c.in-Fault.is)
+pub returns-in_err-done : goal.returns-in_err-done
+returns-in_err-done c =
+    handed_on c.from_residual.result c.from_residual.ensures ∙ sym (c.loop-i.invariant.4 ∙ turn-stops _ _ _ c.loop-i-test.true _ _ c.step_by-done.ensures _ c.in_err-done.was)
 
 pub loop-i-preserved : goal.loop-i-preserved
 loop-i-preserved c =
@@ -42,7 +44,7 @@ loop-i-preserved c =
       l.invariant.1,
       turn_small _ _ l.i in-loop _ _ done l.invariant.1 l.invariant.2 (omega (arith, l.invariant.0, l.invariant.3)),
       turn-seen _ _ l.i in-loop _ _ done ∙ ap (λ (k : ℕ). k + 1) l.invariant.3,
-      l.invariant.4 ∙ turn_on _ _ l.i in-loop _ _ done c.in_default.is,
+      l.invariant.4 ∙ turn_on _ _ l.i in-loop _ _ done c.in_ok-done.was,
     )
 
 pub ended-requires : goal.ended-requires

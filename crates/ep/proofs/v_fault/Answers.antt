@@ -5,7 +5,7 @@ use Rattle.ep.proofs.v_fault.Goals as goal
 
 pub returns-then-tally-eq0 : goal.returns-then-tally-eq0
 unfolding v_fault
-returns-then-tally-eq0 c = simp (eq-eqb _ _ c.if-tally-eq0.true)
+returns-then-tally-eq0 c = simp (eq-eqb _ _ c.if-tally-eq0.true, c.refused.ensures)
 
 pub returns : goal.returns
 unfolding v_fault
