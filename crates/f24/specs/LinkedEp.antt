@@ -7,12 +7,12 @@ use Rattle.f24.specs.Linked.{code_or, room_or}
 
 -- A refusal returns its number, and an acceptance 0.
 abbrev pub ep_number : EpAnswer → ℕ
-ep_number (Ok why) = 0
+ep_number (Ok payments) = 0
 ep_number (Err why) = why.number
 
 -- A refusal writes its record and its position, and an acceptance the number of M and the sum of their totals.
 abbrev pub ep_numbers : EpAnswer → List ℕ
-ep_numbers (Ok why) = why.count ∷ why.sum ∷ []
+ep_numbers (Ok payments) = payments.count ∷ payments.sum ∷ []
 ep_numbers (Err why) = refusal_numbers why.«record» why.position
 
 -- `f24_ep_judge` returns 100 for a room of fewer than 2 numbers, and else what the judgement of the records says.
