@@ -1,5 +1,5 @@
 -- Believed. "A line is named by delega number, line subtype and its place in the section, counted from 1."
-use Rattle.std.specs.Prelude.{ℕ, ◌+◌, Bool, false, cond, List, [], ◌∷◌, eqb, Err}
+use Rattle.std.specs.Prelude.{ℕ, ◌+◌, Bool, false, cond, List, [], ◌∷◌, eqb, Err, Option, None, Some}
 use Rattle.layout.specs.declared.Kind.{Kind}
 use Rattle.layout.specs.Kinds.{of_line, section_kind, kind_in}
 use Rattle.order.specs.declared.Stage.{Stage}
@@ -27,6 +27,10 @@ unfoldable pub line_from : ℕ → ℕ → ℕ → Stage → ℕ → ℕ → Lis
 line_from d s n p e k [] = 0
 line_from d s n p e k (r ∷ rs) =
     cond (is_line d s n p e (kind_in r)) (k + 1) (line_from d s n (next_stage p (kind_in r)) (next_deleghe e (kind_in r)) (k + 1) rs)
+
+-- that number, where there is such a record; serves inner functions
+abbrev pub numbered : ℕ → Option ℕ
+numbered k = cond (eqb k 0) None (Some k)
 
 -- the line of a section, where the subtype is that of a section's lines
 abbrev pub line_of_kind : ℕ → Kind → ℕ → List ℕ → ℕ

@@ -5,7 +5,7 @@ ghost use Rattle.std.specs.Prelude.{◌≡◌, ◌<◌, ◌≤◌, length};
 ghost use Rattle.order.specs.Stages.{stage_at, at_start};
 ghost use Rattle.judge.specs.Flow.{records_of};
 ghost use Rattle.judge.specs.Part.{LiesAt};
-ghost use Rattle.find.specs.Line.{is_line, line_from, found_in};
+ghost use Rattle.find.specs.Line.{is_line, line_from, numbered, found_in};
 ghost use Rattle.find.specs.Part.{part_start, part_of};
 
 use layout::{Flow, Kind};
@@ -20,10 +20,10 @@ fn is_line(delega: u64, section: usize, nth: u64, at: Stage, opened: u64, kind: 
     matches!(kind, Kind::Line(s) if s == section) && opened == delega && at.lines + 1 == nth
 }
 
-// The number of the line's record in a flow of at most 546 records, or 0 where there is no such line.
-fn line_in(flow: &[u8], delega: u64, section: usize, nth: u64) -> usize
+// The number of the line's record in a flow of at most 546 records, or none where there is no such line.
+fn line_in(flow: &[u8], delega: u64, section: usize, nth: u64) -> Option<usize>
     requires { length flow.now ≤ 65520 }
-    ensures { result ≡ line_from delega section nth (stage_at at_start 0 0) 0 0 (records_of flow.now) }
+    ensures { result ≡ numbered (line_from delega section nth (stage_at at_start 0 0) 0 0 (records_of flow.now)) }
 {
     let mut at = Stage {
         phase: Stage::START,
@@ -34,12 +34,12 @@ fn line_in(flow: &[u8], delega: u64, section: usize, nth: u64) -> usize
     for (k, rec) in flow.chunks_exact(Flow::RECORD).enumerate() {
         let kind = records::kind_in(rec);
         if is_line(delega, section, nth, at, opened, kind) {
-            return k + 1;
+            return Some(k + 1);
         }
         at = order::next_stage(at, kind);
         opened = rules::next_deleghe(opened, kind);
     }
-    0
+    None
 }
 
 // The number of the line's record, counted from 1, or the refusal. The flow is judged first, and its refusal is handed on.
@@ -50,11 +50,7 @@ pub fn find(flow: &[u8], delega: u64, subtype: u64, nth: u64) -> Result<usize, R
     let Kind::Line(section) = layout::section_kind(subtype) else {
         return Err(Refusal::NO_SUCH_LINE);
     };
-    let k = line_in(flow, delega, section, nth);
-    if k == 0 {
-        return Err(Refusal::NO_SUCH_LINE);
-    }
-    Ok(k)
+    line_in(flow, delega, section, nth).ok_or(Refusal::NO_SUCH_LINE)
 }
 
 // The record that was found, within the caller's own buffer; an empty part with a refusal, and where the flow has no such record.

@@ -2,6 +2,9 @@ use Prim.Native.Nat.{ℕ, ◌+◌}
 use mathlib.Core.List.{List}
 use mathlib.Core.Path.{◌≡◌, refl, sym, ap, subst, ◌∙◌}
 use denote.Ref.{Bor}
+use native.Mathlib.Omega.{arith}
+use borrow.Author.Tests.{ne_eqb}
+use Rattle.find.specs.Line.{numbered}
 use Rattle.std.specs.Prelude.{Option, Some, None}
 use Rattle.std.specs.declared.iter.Enumerate.{Enumerate}
 use Rattle.std.specs.declared.slice.ChunksExact.{ChunksExact}
@@ -28,7 +31,8 @@ returns-then-is_line c =
     let q = (goal.at.returns-then-is_line c).After-kind_in-kind in
     let g = given q in
     let m = counted c.loop-k.k-iterator c.next.new.self _ c.next.ensures.steps _ c.in-Some.is in
-    ap (λ (n : ℕ). n + 1) m.1 ∙ sym (search-finds _ _ _ _ _ _ _ c.loop-k.invariant.searching g.more _ g.here _ c.kind_in-kind.ensures (sym c.is_line.ensures ∙ c.if-is_line.true))
+    let e = ap (λ (n : ℕ). n + 1) m.1 ∙ sym (search-finds _ _ _ _ _ _ _ c.loop-k.invariant.searching g.more _ g.here _ c.kind_in-kind.ensures (sym c.is_line.ensures ∙ c.if-is_line.true)) in
+    sym (ap numbered (sym e) ∙ rw (ne_eqb (c.in-Some.k + 1) 0 (λ z. omega arith)))
 
 pub loop-k-preserved : goal.loop-k-preserved
 loop-k-preserved c =
@@ -38,4 +42,4 @@ loop-k-preserved c =
     rw (c.next_deleghe-opened.ensures, c.next_stage-at.ensures, m.2) record { searching = search-on _ _ _ _ _ _ _ c.loop-k.invariant.searching g.more _ g.here _ c.kind_in-kind.ensures (sym c.is_line.ensures ∙ c.if-is_line.false); chunked = g.on }
 
 pub returns : goal.returns
-returns c = sym (search-ends _ _ _ _ _ _ _ c.loop-k.invariant.searching (chunk-none _ _ _ _ c.loop-k.invariant.chunked _ (ended c.loop-k.k-iterator c.next.new.self _ c.next.ensures.steps c.in-None.is) refl))
+returns c = sym (ap numbered (search-ends _ _ _ _ _ _ _ c.loop-k.invariant.searching (chunk-none _ _ _ _ c.loop-k.invariant.chunked _ (ended c.loop-k.k-iterator c.next.new.self _ c.next.ensures.steps c.in-None.is) refl)))
