@@ -1,5 +1,5 @@
 // Codes of eleven digits and five spaces.
-ghost use Rattle.std.specs.Prelude.{◌≡◌};
+ghost use Rattle.std.specs.Prelude.{◌≡◌, ◌≤◌};
 ghost use Rattle.taxcode.specs.Places.{every_from};
 ghost use Rattle.taxcode.specs.Firms.{doubled, count_at, digit_or_space, firm_right};
 
@@ -15,12 +15,13 @@ fn doubled(d: u8) -> usize
     if 9 < twice { twice - 9 } else { twice }
 }
 
-// What a byte counts in a place.
+// What a digit counts in a place.
 #[tactic(auto, unfolding(crate::specs::Firms::count_at))]
 fn count_at(k: usize, b: u8) -> usize
+    requires { 48 ≤ b }
     ensures { result ≡ count_at k b }
 {
-    let d = b.saturating_sub(b'0');
+    let d = b - b'0';
     by_place(k, doubled(d), usize::from(d))
 }
 

@@ -43,8 +43,11 @@ fn place_right(k: usize, b: u8) -> bool
 fn even_value(b: u8) -> usize
     ensures { result ≡ even_value b }
 {
-    let first = if b.is_ascii_digit() { b'0' } else { b'A' };
-    usize::from(b.saturating_sub(first))
+    if b.is_ascii_digit() {
+        usize::from(b - b'0')
+    } else {
+        usize::from(b.saturating_sub(b'A'))
+    }
 }
 
 // Whether sixteen characters are a code: fifteen that may stand in their places, and the letter that they give. The table stands in a local, since the
