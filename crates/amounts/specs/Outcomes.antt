@@ -1,6 +1,6 @@
 -- Believed. The outcome of a check: it passes, or it has a fault with a number and a position.
 use Rattle.std.specs.Prelude.{List, [], ◌∷◌, Err}
-use Rattle.refusal.specs.Outcomes.{Outcome, Pass, Fails}
+use Rattle.refusal.specs.Outcomes.{Outcome, Pass}
 
 -- the first of two outcomes that is a fault
 abbrev pub first : Outcome → Outcome → Outcome

@@ -20,7 +20,7 @@ use Rattle.delega.proofs.Asked.{by_count, delega-of-accepted, closes-own}
 use Rattle.rebalance.specs.Rebalance.{refreshed}
 use Rattle.rebalance.proofs.Rewritten.{AllLike}
 use Rattle.find.specs.Line.{line_of}
-use Rattle.correct.specs.Answers.{Correction, Made, Refused}
+use Rattle.correct.specs.Answers.{Correction, Made}
 use Rattle.correct.specs.Correction.{section_of, correction_of, corrected_bytes}
 use Rattle.correct.specs.Effect.{with_amounts, Call, after, EachOne}
 use Rattle.correct.proofs.Amended.{amended}

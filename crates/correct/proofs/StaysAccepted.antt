@@ -21,7 +21,7 @@ use Rattle.rebalance.proofs.Emit.{kept-stands}
 use Rattle.rebalance.proofs.Flat.{name-in-front}
 use Rattle.rebalance.proofs.Judged.{flat-records, length-mended, whole_same, judged-rebalanced, accepted-mends}
 use Rattle.find.specs.Line.{line_of}
-use Rattle.correct.specs.Answers.{Correction, Made, Refused}
+use Rattle.correct.specs.Answers.{Correction, Made}
 use Rattle.correct.specs.Correction.{section_of, correction_of, corrected_bytes}
 use Rattle.correct.specs.Effect.{with_amounts, Call, after}
 use Rattle.correct.proofs.Amended.{amended, kind-amended}

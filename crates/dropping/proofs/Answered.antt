@@ -14,7 +14,6 @@ use Rattle.text.specs.Among.{among}
 use Rattle.text.proofs.Tests.{untrue}
 use Rattle.text.proofs.Bytes.{within}
 use Rattle.judge.specs.Refusal.{Verdict, Accepted, judged_first}
-use Rattle.judge.specs.Refusal as Judge
 use Rattle.judge.specs.Flow.{judged}
 use Rattle.close.specs.Closing.{each_once, left_of}
 use Rattle.close.proofs.Counted.{once-parts, left-counted}

@@ -10,7 +10,6 @@ use Rattle.layout.specs.declared.RecordType.{RecordType}
 use Rattle.layout.specs.declared.RecordType.TheVariants.{F4, T10, T20, T40, T50, EF, NoType}
 use Rattle.layout.specs.Kinds.{type_in}
 use Rattle.judge.specs.Refusal.{Verdict, Accepted}
-use Rattle.judge.specs.Refusal as Judge
 use Rattle.judge.specs.Flow.{records_of, judged}
 use Rattle.judge.specs.Plain.{sum_over, opens, tens_in}
 use Rattle.judge.proofs.Records.{length-chunks}

@@ -5,7 +5,7 @@ use mathlib.Core.Path.{◌≡◌, refl, sym}
 use mathlib.Core.List.{List}
 use native.Mathlib.Omega.{arith}
 use lib.ListN.{length}
-use Rattle.ep.specs.Answers.{EpAnswer, Accepted, Refused}
+use Rattle.ep.specs.Answers.{EpAnswer}
 use Rattle.ep.specs.Payments.{judged}
 use Rattle.ep.proofs.Exactly.{refused-number}
 use Rattle.f24.specs.Linked.{code_or}

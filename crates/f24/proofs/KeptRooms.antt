@@ -20,8 +20,7 @@ use Rattle.dropping.specs.Dropping as Shortening
 use Rattle.dropping.specs.Dropping.{refusal_dropped, dropped_flow}
 use Rattle.sums.specs.declared.KeptSums.{KeptSums}
 use Rattle.kept.specs.Keeping.{correction_with, corrected_with, correction_kept, mending_with, mended_with, listed_with, mending_kept, dropping_with, dropped_with, dropping_kept}
-use Rattle.f24.specs.LinkedKept.{too_short, code_unless, left_unless, kept_in, kept_written, kept_code, kept_record, correct_kept_code, correct_kept_flow, correct_kept_record}
-use Rattle.f24.specs.LinkedKept.{rebalance_kept_code, rebalance_kept_flow, rebalance_kept_list, rebalance_kept_record, drop_kept_code, drop_kept_flow, drop_kept_record}
+use Rattle.f24.specs.LinkedKept.{too_short, code_unless, left_unless, kept_in, kept_written, kept_code, kept_record, correct_kept_code, correct_kept_flow, correct_kept_record, rebalance_kept_code, rebalance_kept_flow, rebalance_kept_list, rebalance_kept_record, drop_kept_code, drop_kept_flow, drop_kept_record}
 
 -- A call that refuses as x says, and does not return 0.
 module _ (kept answer : List ℕ) (x : Refusal) {m : ℕ} (h : 1 ≤ m) (e : code_unless kept answer x.number ≡ m) where

@@ -30,8 +30,7 @@ use Rattle.kept.specs.Keeping.{keeping, correction_with, corrected_with, correct
 use Rattle.kept.proofs.Answered.{correction-number, mending-number, dropping-number}
 use Rattle.kept.proofs.HandedBack.{kept-made, correction-made, mending-made, dropping-made, correction-plain, mending-plain, dropping-plain}
 use Rattle.f24.specs.Linked.{answer_numbers, dropped_numbers}
-use Rattle.f24.specs.LinkedKept.{too_short, code_unless, left_unless, kept_in, kept_written, kept_code, kept_record, correct_kept_code, correct_kept_flow, correct_kept_record}
-use Rattle.f24.specs.LinkedKept.{rebalance_kept_code, rebalance_kept_flow, rebalance_kept_list, rebalance_kept_record, drop_kept_code, drop_kept_flow, drop_kept_record, drop_kept_answer}
+use Rattle.f24.specs.LinkedKept.{too_short, code_unless, left_unless, kept_in, kept_written, kept_code, kept_record, correct_kept_code, correct_kept_flow, correct_kept_record, rebalance_kept_code, rebalance_kept_flow, rebalance_kept_list, rebalance_kept_record, drop_kept_code, drop_kept_flow, drop_kept_record, drop_kept_answer}
 
 -- The record that is written to a room is read back from it.
 pub record-back : (s : List Sums) (room : List ℕ) → length s ≡ 5 → kept_in (overlay (sums_numbers s) room) ≡ record { sums = s }

@@ -1,7 +1,7 @@
 -- Believed. What the call of the linkable library for the F24 EP form returns, and what it leaves in the room that it is lent.
 use Rattle.std.specs.Prelude.{ℕ, List, [], ◌∷◌, Ok, Err}
 use Rattle.answers.specs.Numbers.{refusal_numbers}
-use Rattle.ep.specs.Answers.{EpAnswer, Accepted, Refused}
+use Rattle.ep.specs.Answers.{EpAnswer}
 use Rattle.ep.specs.Payments.{judged}
 use Rattle.f24.specs.Linked.{code_or, room_or}
 

@@ -18,9 +18,8 @@ use Rattle.refusal.specs.Outcomes.{Pass}
 use Rattle.order.specs.declared.Stage.{Stage}
 use Rattle.rules.specs.declared.State.{State}
 use Rattle.order.specs.Stages.{stage_at, at_start, after_taxpayer, after_domicile, after_line, after_balance}
-use Rattle.order.specs.Order.{stands}
+use Rattle.order.specs.Order.{stands, next_stage}
 use Rattle.rules.specs.Checks.{number_fault}
-use Rattle.order.specs.Order.{next_stage}
 use Rattle.rules.specs.Step.{next_deleghe, next}
 use Rattle.judge.specs.Plain.{NoFault}
 use Rattle.judge.proofs.Accepted.{right_of, carried-number}

@@ -1,7 +1,7 @@
 -- Believed. "A found line is handed back as that record within the caller's own buffer; a refusal hands back an empty part."
 use Rattle.std.specs.Prelude.{ℕ, List, [], Err}
 use Rattle.judge.specs.Part.{record_at, record_start}
-use Rattle.find.specs.Answers.{Found, At, Refused}
+use Rattle.find.specs.Answers.{Found, At}
 
 -- the bytes of the part: those of the k-th record, or none
 abbrev pub part_of : List ℕ → Found → List ℕ

@@ -21,10 +21,9 @@ use Rattle.rules.specs.declared.State.{State}
 use Rattle.rules.specs.State.{start_state}
 use Rattle.order.specs.Stages.{at_start, after_tail}
 use Rattle.text.specs.Among.{among}
-use Rattle.order.specs.Order.{stands, type_stands, standing}
+use Rattle.order.specs.Order.{stands, type_stands, standing, next_stage}
 use Rattle.rules.specs.Stored.{stored_of, wrong}
 use Rattle.rules.specs.Checks.{char_fault, bad_fields, carried, number_fault, own_fault, fault}
-use Rattle.order.specs.Order.{next_stage}
 use Rattle.rules.specs.Step.{next}
 use Rattle.judge.specs.Refusal.{Accepted}
 use Rattle.judge.specs.declared.Judgement.{Judgement}

@@ -7,7 +7,7 @@ use native.Mathlib.Omega.{arith}
 use lib.Dec.{eqb, ltb}
 use lib.ListN.{length}
 use Rattle.text.proofs.Tests.{either_way}
-use Rattle.refusal.specs.Outcomes.{Outcome, Pass, Fails}
+use Rattle.refusal.specs.Outcomes.{Outcome, Pass}
 use Rattle.rules.specs.declared.State.{State}
 use Rattle.rules.specs.State.{start_state}
 use Rattle.order.specs.Stages.{after_tail}

@@ -1,7 +1,7 @@
 -- Believed; `rest_of` and `Ready` serve inner functions. The judgement of a flow: the first fault in the order of the records, or acceptance with the counts and sums.
 use Rattle.std.specs.Prelude.{ℕ, zero, suc, ◌+◌, ◌-◌, ◌*◌, ◌/◌, ◌%◌, ◌≤◌, ◌<◌, ◌≡◌, List, [], ◌∷◌, cond, eqb, ltb, length, take, drop, Err}
 use Rattle.layout.specs.Fields.{bytes_of, support_name}
-use Rattle.refusal.specs.Outcomes.{Outcome, Pass, Fails}
+use Rattle.refusal.specs.Outcomes.{Outcome, Pass}
 use Rattle.rules.specs.declared.State.{State}
 use Rattle.rules.specs.State.{zero_sections, start_state}
 use Rattle.order.specs.Stages.{after_tail}

@@ -1,6 +1,6 @@
 -- Believed, for a judgement that goes on from a state; `answer_of` is for theorems. A run over records: the first fault among them, and the state that those before it have led to.
 use Rattle.std.specs.Prelude.{List, [], ◌∷◌, ℕ, Err}
-use Rattle.refusal.specs.Outcomes.{Outcome, Pass, Fails}
+use Rattle.refusal.specs.Outcomes.{Outcome, Pass}
 use Rattle.rules.specs.declared.State.{State}
 use Rattle.rules.specs.Checks.{fault}
 use Rattle.rules.specs.Step.{next}

@@ -9,7 +9,7 @@ use native.Mathlib.Decide.{ℕ_discrete}
 use borrow.Author.Tests.{eq-eqb, ne_eqb}
 use Rattle.text.specs.Characters.{first_bad}
 use Rattle.layout.specs.Kinds.{kind_in}
-use Rattle.refusal.specs.Outcomes.{Outcome, Pass, Fails}
+use Rattle.refusal.specs.Outcomes.{Outcome, Pass}
 use Rattle.amounts.specs.Outcomes.{first}
 use Rattle.amounts.proofs.Outcomes.{first-pass}
 use Rattle.order.specs.Stages.{after_tail}

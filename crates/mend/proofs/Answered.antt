@@ -13,14 +13,13 @@ use Rattle.refusal.specs.Outcomes.{Fails}
 use Rattle.rules.specs.declared.State.{State}
 use Rattle.rules.specs.State.{start_state}
 use Rattle.judge.specs.Flow.{records_of, head_name_of}
-use Rattle.judge.specs.Plain.{Whole}
+use Rattle.judge.specs.Plain.{Whole, state_after}
 use Rattle.judge.proofs.OwnNumbers.{In, in-fault, in-more}
 use Rattle.rebalance.specs.Rebalance.{all_fit}
 use Rattle.rebalance.proofs.KeptNumbers.{kept_in, last-in}
 use Rattle.lenient.specs.Answers.{Lenient}
 use Rattle.lenient.specs.Answers as Kept
 use Rattle.changes.specs.Changes.{changes_of}
-use Rattle.judge.specs.Plain.{state_after}
 use Rattle.mend.specs.Answers.{Mending, Refused}
 use Rattle.mend.specs.Mending.{refusal_mended, remaining_from, remaining, listed_in, weighed, unless, mending_of}
 use Rattle.mend.specs.WhenRefused.{FirstRemaining, Mends, remaining_numbers, mending_numbers, Answers, TooLong, NotWhole, FaultAt, NoTail, NoFit, ShortList, IsRebalanced}

@@ -8,7 +8,7 @@ use native.Mathlib.Omega.{arith}
 use native.Mathlib.Decide.{dec_lt, ℕ_discrete}
 use borrow.Author.Tests.{le-ltb}
 use lib.ListN.{length}
-use Rattle.refusal.specs.Outcomes.{Outcome, Pass, Fails}
+use Rattle.refusal.specs.Outcomes.{Outcome, Pass}
 use Rattle.rules.specs.declared.State.{State}
 use Rattle.state.specs.Numbers.{state_of}
 use Rattle.judge.specs.Refusal.{Verdict}

@@ -11,7 +11,7 @@ use Rattle.layout.specs.declared.Field.{Field}
 use Rattle.layout.specs.declared.Kind.{Kind}
 use Rattle.layout.specs.Kinds.{type_in, kind_in}
 use Rattle.layout.specs.Fields.{delega_number, fields_of, bytes_of, value_of}
-use Rattle.refusal.specs.Outcomes.{Outcome, Pass, Fails}
+use Rattle.refusal.specs.Outcomes.{Outcome, Pass}
 use Rattle.amounts.specs.Outcomes.{first}
 use Rattle.order.specs.Order.{standing}
 use Rattle.rules.specs.declared.State.{State}

@@ -3,7 +3,7 @@ use Rattle.std.specs.Prelude.{ℕ, ◌+◌, ◌-◌, ◌*◌, ◌/◌, ◌<◌, 
 use Rattle.text.specs.Answers.{Digits, Number, NonDigit, TooLong}
 use Rattle.text.specs.Characters.{all_allowed}
 use Rattle.layout.specs.declared.Field.{Field}
-use Rattle.refusal.specs.Outcomes.{Outcome, Pass, Fails}
+use Rattle.refusal.specs.Outcomes.{Outcome, Pass}
 use Rattle.rules.specs.Checks.{bad_fields}
 use Rattle.rules.specs.Values.{values_in}
 use Rattle.records.specs.declared.Values.{Values}

@@ -22,7 +22,7 @@ use Rattle.amounts.specs.Amounts.{apart, final_of}
 use Rattle.rebalance.specs.Rebalance.{put_all, fits_all}
 use Rattle.layout.specs.declared.Section.{Section}
 use Rattle.text.specs.Answers.{TooLong}
-use Rattle.text.specs.Numbers.{read_number}
+use Rattle.text.specs.Numbers.{read_number, digits_of}
 use borrow.Author.Tests.{lt-ltb, le-ltb}
 use Rattle.sheet.specs.declared.Misfit.{Misfit}
 use Rattle.sheet.specs.declared.Spot.{Spot}
@@ -33,7 +33,6 @@ use Rattle.rebalance.specs.Numbering.{with_number}
 use Rattle.sheet.specs.Filled.{is_tail, with_name, filled}
 use lib.ListN.{length, take, drop, replicate, length-append, get_or}
 use lib.Seq.{take_at, length-take-le}
-use Rattle.text.specs.Numbers.{digits_of}
 use Rattle.text.specs.Placing.{put_at, part_bytes, number_bytes}
 use Rattle.text.proofs.Numerals.{length_digits}
 use Rattle.text.proofs.Puts.{length-put, put_whole, put_is}

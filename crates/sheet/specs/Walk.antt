@@ -2,7 +2,7 @@
 use Rattle.std.specs.Prelude.{ℕ, ◌+◌, ◌*◌, ◌≤◌, ◌≡◌, cond, List, [], ◌∷◌, ◌++◌, eqb, ltb, length, take, drop, Err}
 use Rattle.text.specs.Answers.{Digits, TooLong}
 use Rattle.text.specs.Numbers.{number_of}
-use Rattle.refusal.specs.Outcomes.{Outcome, Pass, Fails}
+use Rattle.refusal.specs.Outcomes.{Outcome, Pass}
 use Rattle.rebalance.specs.Rebalance.{flat}
 use Rattle.sheet.specs.declared.Misfit.{Misfit}
 use Rattle.sheet.specs.declared.Spot.{Spot}

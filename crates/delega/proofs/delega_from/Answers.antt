@@ -3,7 +3,7 @@ use Rattle.judge.proofs.Chunked.{Given, chunked-start, chunk-given, chunk-none}
 use Rattle.records.proofs.Sizes.{sums-small}
 use Rattle.rules.proofs.Growth.{step_room}
 use Rattle.rules.specs.State.{start_state}
-use Prim.Native.Nat.{ℕ, ◌<◌}
+use Prim.Native.Nat.{◌<◌}
 use native.Mathlib.Omega.{arith}
 use mathlib.Core.Path.{◌≡◌, sym, ◌∙◌}
 use Rattle.delega.proofs.delega_from.Goals as goal

@@ -8,10 +8,9 @@ use Rattle.find.proofs.Search.{found-refused, found-no-section, found-sought}
 use Prim.Native.Nat.{ℕ}
 use Rattle.order.specs.Stages.{stage_at, at_start}
 use Rattle.refusal.proofs.Handed.{handed_on}
-use Rattle.judge.specs.Flow.{records_of}
+use Rattle.judge.specs.Flow.{records_of, judged}
 use Rattle.find.specs.Line.{line_from, numbered, or_absent, found_in}
 use Rattle.judge.proofs.Accepted.{accepted-means-no-fault}
-use Rattle.judge.specs.Flow.{judged}
 use Rattle.judge.specs.declared.Judgement.{Judgement}
 use Rattle.judge.specs.Refusal.{Accepted}
 use lib.Dec.{eqb}

@@ -1,6 +1,6 @@
 -- `lenient::first_value` meets its contract: what the first numeric field says, and 0 where it says no number.
 -- The field that is read is the first.
-use mathlib.Core.Path.{◌≡◌, sym, ap, ◌∙◌}
+use mathlib.Core.Path.{◌≡◌, ap, ◌∙◌}
 use mathlib.Core.List.{List}
 use Prim.Native.Nat.{ℕ}
 use lib.ListN.{get_or}

@@ -14,7 +14,7 @@ use Rattle.text.specs.Answers.{Digits}
 use Rattle.text.specs.Numbers.{number_of, amount_of}
 use Rattle.records.specs.Reading.{non_digit_at, values_read}
 use Rattle.records.proofs.values_in.Goals as goal
-use Rattle.records.proofs.values_in.Goals.{After-loop-f, After-read_field-said, At-loop-f, In-loop-f}
+use Rattle.records.proofs.values_in.Goals.{After-read_field-said, At-loop-f, In-loop-f}
 
 abbrev AtLoop : Type 0
 AtLoop = At-loop-f

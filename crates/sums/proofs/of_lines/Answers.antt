@@ -9,7 +9,7 @@ use Rattle.rebalance.specs.Weigh.{Turn}
 use Rattle.rebalance.proofs.Turns.{next-by, turn-room}
 use Rattle.sums.proofs.Adding.{adding-start, adding-on, adding-end}
 use Rattle.sums.proofs.of_lines.Goals as goal
-use Rattle.sums.proofs.of_lines.Goals.{After-line_sums, After-next_state-st}
+use Rattle.sums.proofs.of_lines.Goals.{After-line_sums}
 
 -- The record, as the iterator gives it.
 given : (c : After-line_sums) → Given c.args.flow.now c.loop-rec.st.seen c.in-Some.rec.now c.next.new.self
