@@ -18,11 +18,11 @@ pub fn f24_ep_judge(records: &[u8], answer: &mut [u64]) -> u64
     match ep::ep_judge(records) {
         Ok(payments) => {
             let numbers = [payments.count, payments.sum];
-            state::put(&mut *answer, &numbers);
+            state::put(answer, &numbers);
             0
         }
         Err(why) => {
-            answers::put_refusal(&mut *answer, why.record, why.position);
+            answers::put_refusal(answer, why.record, why.position);
             why.number
         }
     }

@@ -29,12 +29,12 @@ pub fn f24_kept(flow: &[u8], kept: &mut [u64], answer: &mut [u64]) -> u64
     let made = kept::keep(flow);
     let verdict = made.verdict;
     if let Err(why) = verdict {
-        answers::put_refusal(&mut *answer, why.record, why.position);
+        answers::put_refusal(answer, why.record, why.position);
         return why.number;
     }
     let fresh = made.kept;
     let totals = fresh.sums;
-    answers::put_sums(&mut *kept, totals);
+    answers::put_sums(kept, totals);
     0
 }
 
@@ -61,25 +61,17 @@ pub fn f24_correct_kept(
         return NO_ROOM;
     }
     let sums = state::sums_at(kept, 0);
-    let done = kept::correct_kept(
-        &mut *flow,
-        delega,
-        subtype,
-        nth,
-        debit,
-        credit,
-        KeptSums { sums },
-    );
+    let done = kept::correct_kept(flow, delega, subtype, nth, debit, credit, KeptSums { sums });
     let fresh = done.kept;
     let totals = fresh.sums;
     let told = done.answer;
     match told {
         Ok(()) => {
-            answers::put_sums(&mut *kept, totals);
+            answers::put_sums(kept, totals);
             0
         }
         Err(why) => {
-            answers::put_refusal(&mut *answer, why.record, why.position);
+            answers::put_refusal(answer, why.record, why.position);
             why.number
         }
     }
@@ -105,19 +97,19 @@ pub fn f24_rebalance_kept(
         return NO_ROOM;
     }
     let sums = state::sums_at(kept, 0);
-    let done = kept::rebalance_kept(&mut *flow, &mut *changed, KeptSums { sums });
+    let done = kept::rebalance_kept(flow, changed, KeptSums { sums });
     let fresh = done.kept;
     let totals = fresh.sums;
     let told = done.answer;
     match told {
         Ok(count) => {
-            answers::put_sums(&mut *kept, totals);
+            answers::put_sums(kept, totals);
             let numbers = [count as u64];
-            state::put(&mut *answer, &numbers);
+            state::put(answer, &numbers);
             0
         }
         Err(why) => {
-            answers::put_refusal(&mut *answer, why.record, why.position);
+            answers::put_refusal(answer, why.record, why.position);
             why.number
         }
     }
@@ -137,19 +129,19 @@ pub fn f24_drop_kept(flow: &mut [u8], numbers: &[u64], kept: &mut [u64], answer:
         return NO_ROOM;
     }
     let sums = state::sums_at(kept, 0);
-    let done = kept::drop_kept(&mut *flow, numbers, KeptSums { sums });
+    let done = kept::drop_kept(flow, numbers, KeptSums { sums });
     let fresh = done.kept;
     let totals = fresh.sums;
     let told = done.answer;
     match told {
         Ok(length) => {
-            answers::put_sums(&mut *kept, totals);
+            answers::put_sums(kept, totals);
             let new_length = [length as u64];
-            state::put(&mut *answer, &new_length);
+            state::put(answer, &new_length);
             0
         }
         Err(why) => {
-            answers::put_refusal(&mut *answer, why.record, why.position);
+            answers::put_refusal(answer, why.record, why.position);
             why.number
         }
     }

@@ -53,11 +53,11 @@ pub fn f24_judge(flow: &[u8], answer: &mut [u64]) -> u64
     let judgement = judge::judge(flow);
     let verdict = judgement.verdict;
     if let Err(why) = verdict {
-        answers::put_refusal(&mut *answer, why.record, why.position);
+        answers::put_refusal(answer, why.record, why.position);
         return why.number;
     }
     let numbers = answers::summary_numbers(judgement.summary);
-    state::put(&mut *answer, &numbers);
+    state::put(answer, &numbers);
     0
 }
 
@@ -72,11 +72,11 @@ pub fn f24_delega(flow: &[u8], number: u64, answer: &mut [u64]) -> u64
     let one = delega::delega(flow, number);
     let verdict = one.verdict;
     if let Err(why) = verdict {
-        answers::put_refusal(&mut *answer, why.record, why.position);
+        answers::put_refusal(answer, why.record, why.position);
         return why.number;
     }
     let numbers = answers::delega_numbers(one);
-    state::put(&mut *answer, &numbers);
+    state::put(answer, &numbers);
     0
 }
 
@@ -91,11 +91,11 @@ pub fn f24_find(flow: &[u8], delega: u64, subtype: u64, nth: u64, answer: &mut [
     match find::find(flow, delega, subtype, nth) {
         Ok(k) => {
             let numbers = [k as u64];
-            state::put(&mut *answer, &numbers);
+            state::put(answer, &numbers);
             0
         }
         Err(why) => {
-            answers::put_refusal(&mut *answer, why.record, why.position);
+            answers::put_refusal(answer, why.record, why.position);
             why.number
         }
     }
@@ -118,10 +118,10 @@ pub fn f24_correct(
     if answer.len() < CORRECT_ROOM {
         return NO_ROOM;
     }
-    match correct::correct(&mut *flow, delega, subtype, nth, debit, credit) {
+    match correct::correct(flow, delega, subtype, nth, debit, credit) {
         Ok(()) => 0,
         Err(why) => {
-            answers::put_refusal(&mut *answer, why.record, why.position);
+            answers::put_refusal(answer, why.record, why.position);
             why.number
         }
     }
@@ -136,14 +136,14 @@ pub fn f24_write(sheet: &[u8], room: &mut [u8], answer: &mut [u64]) -> u64
     if answer.len() < WRITE_ROOM {
         return NO_ROOM;
     }
-    match write::write(sheet, &mut *room) {
+    match write::write(sheet, room) {
         Ok(length) => {
             let numbers = [length as u64];
-            state::put(&mut *answer, &numbers);
+            state::put(answer, &numbers);
             0
         }
         Err(why) => {
-            answers::put_refusal(&mut *answer, why.record, why.position);
+            answers::put_refusal(answer, why.record, why.position);
             why.number
         }
     }
@@ -159,14 +159,14 @@ pub fn f24_rebalance(flow: &mut [u8], changed: &mut [u64], answer: &mut [u64]) -
     if answer.len() < REBALANCE_ROOM {
         return NO_ROOM;
     }
-    match mend::mend(&mut *flow, &mut *changed) {
+    match mend::mend(flow, changed) {
         Ok(count) => {
             let numbers = [count as u64];
-            state::put(&mut *answer, &numbers);
+            state::put(answer, &numbers);
             0
         }
         Err(why) => {
-            answers::put_refusal(&mut *answer, why.record, why.position);
+            answers::put_refusal(answer, why.record, why.position);
             why.number
         }
     }
@@ -181,14 +181,14 @@ pub fn f24_drop(flow: &mut [u8], numbers: &[u64], answer: &mut [u64]) -> u64
     if answer.len() < DROP_ROOM {
         return NO_ROOM;
     }
-    match dropping::drop_deleghe(&mut *flow, numbers) {
+    match dropping::drop_deleghe(flow, numbers) {
         Ok(length) => {
             let new_length = [length as u64];
-            state::put(&mut *answer, &new_length);
+            state::put(answer, &new_length);
             0
         }
         Err(why) => {
-            answers::put_refusal(&mut *answer, why.record, why.position);
+            answers::put_refusal(answer, why.record, why.position);
             why.number
         }
     }
@@ -203,7 +203,7 @@ pub fn f24_start(state: &mut [u64]) -> u64
         return NO_ROOM;
     }
     let numbers = handed::progress_numbers(portion::start());
-    state::put(&mut *state, &numbers);
+    state::put(state, &numbers);
     0
 }
 
@@ -222,8 +222,8 @@ pub fn f24_judge_portion(flow: &[u8], portion: u64, state: &mut [u64], answer: &
     }
     let from = handed::progress_in(state);
     let part = portion::judge_portion(flow, portion as usize, from);
-    answers::hand_back(&mut *state, part);
-    answers::put_portion(&mut *answer, part);
+    answers::hand_back(state, part);
+    answers::put_portion(answer, part);
     let course = part.answer;
     answers::course_code(course)
 }

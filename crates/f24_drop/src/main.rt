@@ -17,7 +17,7 @@ fn deliver(target: &Target, flow: &[u8]) {
 
 // Drops the deleghe from a flow that was read from a file.
 fn drop_from(target: &Target, flow: &mut [u8], numbers: &[u64]) {
-    match dropping::drop_deleghe(&mut *flow, numbers) {
+    match dropping::drop_deleghe(flow, numbers) {
         Ok(n) => deliver(target, &flow[..n]),
         Err(why) => desk::print_refusal(target.command.rt, why),
     }
@@ -36,7 +36,7 @@ fn read_numbers(command: &Command, list: &mut [u64], count: usize) -> bool {
         let Some(number) = command.number_at("NUMBER", i) else {
             return false;
         };
-        put(&mut *list, i - 2, number);
+        put(list, i - 2, number);
     }
     true
 }

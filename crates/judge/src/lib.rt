@@ -198,7 +198,7 @@ pub fn judge_from(flow: &[u8], name: &[u8], kept: &mut [u64]) -> Judgement
             },
         );
     };
-    state::keep(&mut *kept, st);
+    state::keep(kept, st);
     judgement
 }
 

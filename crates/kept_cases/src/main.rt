@@ -130,7 +130,7 @@ fn rebalance_flow(rt: &HostRuntime, flow: &mut [u8], list: &mut [u64], kept: Kep
     ensures { result.length ≤ length flow.old }
 {
     let n = flow.len();
-    let made = kept::rebalance_kept(flow, &mut *list, kept);
+    let made = kept::rebalance_kept(flow, list, kept);
     Left {
         done: print_mending(rt, made.answer, list),
         length: n,
@@ -282,7 +282,7 @@ fn step_on(
     ensures { IfSome result (λ left. left.length ≤ length flow.old) }
 {
     let n = flow.len();
-    let left = make(rt, step, &mut *flow, &rest[n + 1..], last)?;
+    let left = make(rt, step, flow, &rest[n + 1..], last)?;
     print_left(rt, flow, &rest[..n], left);
     Some(left)
 }
@@ -292,7 +292,7 @@ fn one_step(rt: &HostRuntime, cases: &mut File, flow: &mut [u8], last: KeptSums)
     ensures { IfSome result (λ left. left.length ≤ length flow.old) }
 {
     let n = flow.len();
-    let step = read_line(&mut *cases, n)?;
+    let step = read_line(cases, n)?;
     let size = n + 233 + numbers_size(step);
     let mut rest = [0u8; MOST_REST];
     if !desk::read_next(cases, &mut rest, size) {
@@ -312,7 +312,7 @@ fn run_steps(
     let mut length = flow.len();
     let mut kept = made;
     for _ in 0..count {
-        let Some(left) = one_step(rt, &mut *cases, &mut flow[..length], kept) else {
+        let Some(left) = one_step(rt, cases, &mut flow[..length], kept) else {
             return false;
         };
         length = left.length;

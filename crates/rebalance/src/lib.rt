@@ -97,7 +97,7 @@ fn store(rec: &mut [u8], field: Field, v: u64)
 {
     let start = field.start;
     let end = field.end;
-    text::put_number(&mut *rec, start, end - start, v);
+    text::put_number(rec, start, end - start, v);
 }
 
 // The sign and the balance of a section whose lines have the sums t.
@@ -109,7 +109,7 @@ fn fill_ends(rec: &mut [u8], s: usize, t: Sums)
     let at = section.sign;
     rec[at] = amounts::sign_of(t.debit, t.credit);
     store(
-        &mut *rec,
+        rec,
         layout::amount_at(section.balance),
         amounts::apart_of(t.debit, t.credit),
     );
@@ -122,10 +122,10 @@ fn fill_balance(rec: &mut [u8], s: usize, t: Sums)
 {
     let section = layout::section_at(s);
     if section.totals {
-        store(&mut *rec, layout::amount_at(section.total_debit), t.debit);
-        store(&mut *rec, layout::amount_at(section.total_credit), t.credit);
+        store(rec, layout::amount_at(section.total_debit), t.debit);
+        store(rec, layout::amount_at(section.total_credit), t.credit);
     }
-    fill_ends(&mut *rec, s, t);
+    fill_ends(rec, s, t);
 }
 
 // The tail's number of deleghe and of records, and the sum of final balances.
@@ -134,9 +134,9 @@ fn fill_tail(rec: &mut [u8], st: State)
     ensures { rec.new ≡ put_all (stored_of st Kind.Tail) rec.old }
 {
     let records = st.seen + 1;
-    store(&mut *rec, layout::TAIL_DELEGHE, st.deleghe);
-    store(&mut *rec, layout::TAIL_RECORDS, records as u64);
-    store(&mut *rec, layout::TAIL_SUM, st.money.total);
+    store(rec, layout::TAIL_DELEGHE, st.deleghe);
+    store(rec, layout::TAIL_RECORDS, records as u64);
+    store(rec, layout::TAIL_SUM, st.money.total);
 }
 
 // The stored fields of a record of kind k, after the records that led to a state.
@@ -146,9 +146,9 @@ pub fn fill(rec: &mut [u8], st: State, k: Kind)
 {
     let all = st.money.delega.all;
     match k {
-        Kind::Balance(s) => fill_balance(&mut *rec, s, rules::section_sums(st, s)),
-        Kind::Payment => store(&mut *rec, layout::FINAL_BALANCE, amounts::final_of(all)),
-        Kind::Tail => fill_tail(&mut *rec, st),
+        Kind::Balance(s) => fill_balance(rec, s, rules::section_sums(st, s)),
+        Kind::Payment => store(rec, layout::FINAL_BALANCE, amounts::final_of(all)),
+        Kind::Tail => fill_tail(rec, st),
         _ => {}
     }
 }
@@ -160,7 +160,7 @@ fn settle(rec: &mut [u8], st: State) -> State
 {
     let kind = records::kind_in(&*rec);
     let after = rules::next_state(st, kind, records::line_sums(&*rec, kind));
-    fill(&mut *rec, st, kind);
+    fill(rec, st, kind);
     after
 }
 

@@ -10,6 +10,6 @@ pub fn put_delega(rec: &mut [u8], kind: Kind, d: u64)
     ensures { rec.new ≡ with_number kind d rec.old }
 {
     if layout::is_numbered(kind) {
-        text::put_number(&mut *rec, Position::DELEGA_NUMBER - 1, 7, d);
+        text::put_number(rec, Position::DELEGA_NUMBER - 1, 7, d);
     }
 }
