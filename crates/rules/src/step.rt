@@ -117,8 +117,8 @@ pub fn next_state(st: State, k: Kind, x: Sums) -> State
     State {
         stage: order::next_stage(st.stage, k),
         deleghe: next_deleghe(st.deleghe, k),
+        others: next_others(st.others, k),
         money: next_money(st.money, k, x),
         seen: st.seen + 1,
-        others: next_others(st.others, k),
     }
 }
