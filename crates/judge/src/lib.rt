@@ -180,11 +180,10 @@ pub fn judge_from(flow: &[u8], name: &[u8], kept: &mut [u64]) -> Judgement
                 break 'records misread(rec, kind, k);
             }
         } else {
-            let read = records::values_in(rec, kind);
-            if read.bad != 0 {
-                break 'records refused(7, k + 1, read.bad);
-            }
-            values = read.values;
+            values = match records::values_in(rec, kind) {
+                Ok(read) => read,
+                Err(position) => break 'records refused(7, k + 1, position),
+            };
         }
         if let Err(fault) = rules::values_fault(st, name, kind, rec, values) {
             break 'records refused(fault.number, k + 1, fault.position);

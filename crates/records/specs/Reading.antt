@@ -1,12 +1,11 @@
 -- Serves inner functions. How characters and fields are looked at: records up to the first that is not clean, and the values of a record's fields.
-use Rattle.std.specs.Prelude.{ℕ, ◌+◌, ◌-◌, ◌*◌, ◌/◌, ◌<◌, ◌≤◌, ◌≡◌, true, false, List, length, take, drop, replicate, Err}
+use Rattle.std.specs.Prelude.{ℕ, ◌+◌, ◌-◌, ◌*◌, ◌/◌, ◌<◌, ◌≤◌, ◌≡◌, true, false, List, length, take, drop, Err, Result, Ok}
 use Rattle.text.specs.Answers.{Digits, Number, NonDigit, TooLong}
 use Rattle.text.specs.Characters.{all_allowed}
 use Rattle.layout.specs.declared.Field.{Field}
 use Rattle.refusal.specs.Outcomes.{Outcome, Pass}
 use Rattle.rules.specs.Checks.{bad_fields}
 use Rattle.rules.specs.Values.{values_in}
-use Rattle.records.specs.declared.Values.{Values}
 
 -- the records behind the first m, up to n, are all characters, and the next one, where there is one, is not
 pub record Clean (s : List ℕ) (m n : ℕ) : Type 0 where
@@ -25,10 +24,14 @@ offset_of TooLong = 0
 abbrev pub non_digit_at : Field → Digits → ℕ
 non_digit_at f d = f.start + offset_of d + 1
 
+-- values, or the position of the first character in them that is no digit
+abbrev pub Values : Type 0
+Values = Result (List ℕ) ℕ
+
 -- values where check 7 passes, else the position that it tells
-abbrev values_by : Outcome → List ℕ → Values
-values_by Pass vs = record { bad = 0; values = vs }
-values_by (Err why) vs = record { bad = why.position; values = replicate 4 0 }
+abbrev pub values_by : Outcome → List ℕ → Values
+values_by Pass vs = Ok vs
+values_by (Err why) vs = Err why.position
 
 -- the values of the fields of a list, or the position of the first character in them that is no digit
 unfoldable pub values_read : List Field → List ℕ → Values

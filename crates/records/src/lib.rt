@@ -104,35 +104,23 @@ pub fn clean_records(flow: &[u8], seen: usize) -> usize
     count
 }
 
-// What the numeric fields of a record say, or the position of the first character in them that is no digit; that position is 0 where all are.
-#[derive(Clone, Copy)]
-pub struct Values {
-    pub bad: usize,
-    pub values: [u64; 4],
-}
-
-// The values of a record's numeric fields, read one by one: those of head and tail, which carry no delega's number.
-pub fn values_in(rec: &[u8], kind: Kind) -> Values
+// What the numeric fields of a record say, read one by one, or the position of the first character in them that is no digit: of head and tail, which carry
+// no delega's number.
+pub fn values_in(rec: &[u8], kind: Kind) -> Result<[u64; 4], usize>
     requires { length rec.now ≡ 120 }
     ensures { result ≡ values_read (fields_of kind) rec.now }
 {
     let fields = layout::fields_of(kind);
-    let list = fields.fields;
     let mut values = [0u64; 4];
-    let mut f: usize = 0;
-    while f < fields.count {
-        let field = list[f];
+    for f in 0..fields.count {
+        let field = fields.fields[f];
         let said = read_field(rec, field);
         let Ok(v) = said else {
-            return Values {
-                bad: non_digit_at(field, said),
-                values: [0u64; 4],
-            };
+            return Err(non_digit_at(field, said));
         };
         values[f] = v;
-        f += 1;
     }
-    Values { bad: 0, values }
+    Ok(values)
 }
 
 // Whether a record of a delega carries its number: the zero with which its type ends and the seven digits behind it are the word of that number.

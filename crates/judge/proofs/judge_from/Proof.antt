@@ -9,8 +9,8 @@ use Rattle.judge.specs.declared.Judgement.{Judgement}
 use Rattle.judge.specs.Flow.{refused_with, after, judged_from, rest_of, Ready}
 use Rattle.state.specs.Numbers.{kept_after}
 use Rattle.judge.specs.Run.{Run, ran}
-use Rattle.records.specs.Reading.{Clean, values_read}
-use Rattle.records.specs.declared.Values.{Values}
+use Rattle.records.specs.Reading.{Clean, Values, values_read}
+use Rattle.std.specs.Prelude.{Ok, Err}
 use Rattle.rules.proofs.Growth.{step_room, deleghe-on}
 use Rattle.rules.specs.Values.{values_in, values_on}
 use Rattle.rules.specs.Step.{next_deleghe, next_of}
@@ -270,16 +270,16 @@ quick-values c =
 
 -- the fields of a record without a number
 abbrev Plain : Type 0
-Plain = tie.Else-read-ne0 invariant-loop decreases-loop invariant-records decreases-records
+Plain = tie.In-Ok invariant-loop decreases-loop invariant-records decreases-records
 
 abbrev plain_of : Plain → AtNumbered
-plain_of c = c.before.before.before.before
+plain_of c = c.before.before.before
 
-read-plainly : (c : tie.After-values_in-read invariant-loop decreases-loop invariant-records decreases-records) → c.values_in-read.result ≡ values_read (fields_of (kind_in (r (rec-of c.before.before)))) (r (rec-of c.before.before))
-read-plainly c = c.values_in-read.ensures ∙ ap (λ (k : Kind). values_read (fields_of k) (r (rec-of c.before.before))) (kind-is (formed c.before.before))
+read-plainly : (c : tie.After-values_in invariant-loop decreases-loop invariant-records decreases-records) → c.values_in.result ≡ values_read (fields_of (kind_in (r (rec-of c.before.before)))) (r (rec-of c.before.before))
+read-plainly c = c.values_in.ensures ∙ ap (λ (k : Kind). values_read (fields_of k) (r (rec-of c.before.before))) (kind-is (formed c.before.before))
 
-plain-good : (c : Plain) → (bad_fields (fields_of (kind_in (r (rec-of (plain_of c))))) (r (rec-of (plain_of c))) ≡ Pass) × ((values_read (fields_of (kind_in (r (rec-of (plain_of c))))) (r (rec-of (plain_of c)))).values ≡ values_in (fields_of (kind_in (r (rec-of (plain_of c))))) (r (rec-of (plain_of c))))
-plain-good c = values-good _ _ (sym (ap (λ (x : Values). x.bad) (read-plainly c.before.before)) ∙ c.if-read-ne0.false)
+plain-good : (c : Plain) → (bad_fields (fields_of (kind_in (r (rec-of (plain_of c))))) (r (rec-of (plain_of c))) ≡ Pass) × (c.in-Ok.read ≡ values_in (fields_of (kind_in (r (rec-of (plain_of c))))) (r (rec-of (plain_of c))))
+plain-good c = values-good _ _ _ (sym (read-plainly c.before) ∙ c.in-Ok.is)
 
 -- where both ways meet: every field is a number, the values are those of the fields, and the word is that of the number of deleghe after the record
 abbrev Met : Type 0
@@ -300,10 +300,10 @@ met c =
     let n : AtNext = record { before = record { before = c.before; if-is_numbered = w.if-is_numbered }; next_deleghe-d = w.next_deleghe-d } in
     (quick-numbers q, w.values-is ∙ quick-values q, w.own-is ∙ (word-is q.before.before.before.before ∙ ap (λ (i : ℕ). word (digits_of 8 i)) (d-is n))))
     (λ w.
-    let q : Plain = record { before = record { before = record { before = record { before = c.before; if-is_numbered = w.if-is_numbered }; values_in-read = w.values_in-read }; struct_known-1 = w.struct_known-1 }; if-read-ne0 = w.if-read-ne0 } in
+    let q : Plain = record { before = record { before = record { before = c.before; if-is_numbered = w.if-is_numbered }; values_in = w.values_in }; in-Ok = w.in-Ok } in
     let g = plain-good q in
     let u : numbered (kind_in (rm c)) ≡ false = rw (← (kind-is (formed c.before))) (sym c.is_numbered.ensures ∙ w.if-is_numbered.false) in
-    (g.0, w.values-is ∙ (ap (λ (x : Values). x.values) (read-plainly q.before.before) ∙ g.1), w.own-is ∙ ((rec-of c.before).records.invariant.3 ∙ ap (λ (i : ℕ). word (digits_of 8 i)) (sym (unnumbered-next _ _ u)))))
+    (g.0, w.values-is ∙ g.1, w.own-is ∙ ((rec-of c.before).records.invariant.3 ∙ ap (λ (i : ℕ). word (digits_of 8 i)) (sym (unnumbered-next _ _ u)))))
     c.if-is_numbered.branch-raw
 
 -- after `values_fault`: the fault of the record is its answer
@@ -442,11 +442,17 @@ carries-requires c κs = whole (rec-of (num_of (next-of c.before)))
 misread-requires-2 : tie.Need-misread-judgement-requires-then-not-carries invariant-loop decreases-loop invariant-records decreases-records
 misread-requires-2 c κs = (whole (rec-of (num_of (next-of c.before.before.before))), omega (arith, small (rec-of (num_of (next-of c.before.before.before)))))
 
-values-in-requires : tie.Need-values_in-read-requires invariant-loop decreases-loop invariant-records decreases-records
+values-in-requires : tie.Need-values_in-requires invariant-loop decreases-loop invariant-records decreases-records
 values-in-requires c κs = whole (rec-of c.before)
 
+enum-known-read : tie.Need-enum_known-read invariant-loop decreases-loop invariant-records decreases-records
+enum-known-read c = search rules
+
+enum-known-position : tie.Need-enum_known-position invariant-loop decreases-loop invariant-records decreases-records
+enum-known-position c = search rules
+
 add-refused : tie.Need-overflow_add-k invariant-loop decreases-loop invariant-records decreases-records
-add-refused c = omega (arith, small (rec-of c.before.before.before.before))
+add-refused c = omega (arith, small (rec-of c.before.before.before))
 
 refused-requires : tie.Need-refused-judgement-requires invariant-loop decreases-loop invariant-records decreases-records
 refused-requires c κs = search rules
@@ -457,10 +463,10 @@ values-fault-requires c κs = let q = rec-of c.before in let b = (going q).below
 enum-known-fault : tie.Need-enum_known-fault invariant-loop decreases-loop invariant-records decreases-records
 enum-known-fault c = search rules
 
-add-refused-2 : tie.Need-overflow_add-k-in-Err invariant-loop decreases-loop invariant-records decreases-records
+add-refused-2 : tie.Need-overflow_add-k-in-Err-values_fault invariant-loop decreases-loop invariant-records decreases-records
 add-refused-2 c = omega (arith, small (rv c.before))
 
-refused-requires-2 : tie.Need-refused-judgement-requires-in-Err invariant-loop decreases-loop invariant-records decreases-records
+refused-requires-2 : tie.Need-refused-judgement-requires-in-Err-values_fault invariant-loop decreases-loop invariant-records decreases-records
 refused-requires-2 c κs = search rules
 
 enum-told-3 : tie.Need-enum_told-in_default-values_fault invariant-loop decreases-loop invariant-records decreases-records
@@ -528,20 +534,20 @@ leaves-other-number c =
     let o = misread-out (num_of n) (λ p. number-other (r q) (is_number n) (whole q) (fine q) (d-of n) (d_small n) (st q).deleghe (d-is n) (λ e. false≢true (sym (c.if-not-carries.true) ∙ (compared a ∙ eq-eqb _ _ (e ∙ sym (word-is a.before.before.before))))) p) in
     (c.misread-judgement-then-not-carries.ensures ∙ o.0, o.1)
 
-leaves-bad-field : (c : tie.After-refused-judgement invariant-loop decreases-loop invariant-records decreases-records) → Leaves (rec-of c.before.before.before.before.before).before.before c.refused-judgement.result
+leaves-bad-field : (c : tie.After-refused-judgement invariant-loop decreases-loop invariant-records decreases-records) → Leaves (rec-of c.before.before.before.before).before.before c.refused-judgement.result
 leaves-bad-field c =
-    let v = c.before.before.before in
+    let v = c.before.before in
     let n = v.before.before in
     let q = rec-of n in
-    let o = out-bad (flow q) (name q) (run q) (st q) (going q) (more q) (r q) q.record_at-rec.ensures (printed q) (stood n) (values-bad _ _ (λ z. c.if-read-ne0.true (ap (λ (x : Values). x.bad) (read-plainly v) ∙ z))) in
-    (c.refused-judgement.ensures ∙ (ap (λ (x : Values). refused_with 7 ((st q).seen + 1) x.bad) (read-plainly v) ∙ o.0), o.1)
+    let o = out-bad (flow q) (name q) (run q) (st q) (going q) (more q) (r q) q.record_at-rec.ensures (printed q) (stood n) (values-bad _ _ _ (sym (read-plainly v) ∙ c.in-Err.is)) in
+    (c.refused-judgement.ensures ∙ o.0, o.1)
 
-leaves-bad-value : (c : tie.After-refused-judgement-in-Err invariant-loop decreases-loop invariant-records decreases-records) → Leaves (rv c.before.before).before.before c.refused-judgement-in-Err.result
+leaves-bad-value : (c : tie.After-refused-judgement-in-Err-values_fault invariant-loop decreases-loop invariant-records decreases-records) → Leaves (rv c.before.before).before.before c.refused-judgement-in-Err-values_fault.result
 leaves-bad-value c =
     let v = c.before.before in
     let q = rv v in
-    let o = out-fault (flow q) (name q) (run q) (st q) (going q) (more q) (r q) q.record_at-rec.ensures (judged-by v ∙ c.in-Err.is) in
-    (c.refused-judgement-in-Err.ensures ∙ o.0, o.1)
+    let o = out-fault (flow q) (name q) (run q) (st q) (going q) (more q) (r q) q.record_at-rec.ensures (judged-by v ∙ c.in-Err-values_fault.is) in
+    (c.refused-judgement-in-Err-values_fault.ensures ∙ o.0, o.1)
 
 -- where they meet
 abbrev Left : Type 0
@@ -571,11 +577,11 @@ left c =
     (w.judgement-is ∙ o.0, o.1))
     (⊎_elim
     (λ w.
-    let q : tie.After-refused-judgement invariant-loop decreases-loop invariant-records decreases-records = record { before = record { before = record { before = record { before = record { before = record { before = record { before = record { before = record { before = record { before = record { before = record { before = c.before; if-k-clean = w.if-k-clean }; record_at-rec = w.record_at-rec }; form_in-form = w.form_in-form }; stage-1 = w.stage-1 }; fits = w.fits }; if-not-fits = w.if-not-fits }; is_numbered = w.is_numbered }; if-is_numbered = w.if-is_numbered }; values_in-read = w.values_in-read }; struct_known-1 = w.struct_known-1 }; if-read-ne0 = w.if-read-ne0 }; refused-judgement = w.refused-judgement } in
+    let q : tie.After-refused-judgement invariant-loop decreases-loop invariant-records decreases-records = record { before = record { before = record { before = record { before = record { before = record { before = record { before = record { before = record { before = record { before = record { before = c.before; if-k-clean = w.if-k-clean }; record_at-rec = w.record_at-rec }; form_in-form = w.form_in-form }; stage-1 = w.stage-1 }; fits = w.fits }; if-not-fits = w.if-not-fits }; is_numbered = w.is_numbered }; if-is_numbered = w.if-is_numbered }; values_in = w.values_in }; in-Err = w.in-Err }; refused-judgement = w.refused-judgement } in
     let o = leaves-bad-field q in
     (w.judgement-is ∙ o.0, o.1))
     (λ w.
-    let q : tie.After-refused-judgement-in-Err invariant-loop decreases-loop invariant-records decreases-records = record { before = record { before = record { before = record { before = record { before = record { before = record { before = record { before = record { before = record { before = record { before = c.before; if-k-clean = w.if-k-clean }; record_at-rec = w.record_at-rec }; form_in-form = w.form_in-form }; stage-1 = w.stage-1 }; fits = w.fits }; if-not-fits = w.if-not-fits }; is_numbered = w.is_numbered }; if-is_numbered = w.if-is_numbered }; values_fault = w.values_fault }; in-Err = w.in-Err }; refused-judgement-in-Err = w.refused-judgement-in-Err } in
+    let q : tie.After-refused-judgement-in-Err-values_fault invariant-loop decreases-loop invariant-records decreases-records = record { before = record { before = record { before = record { before = record { before = record { before = record { before = record { before = record { before = record { before = record { before = c.before; if-k-clean = w.if-k-clean }; record_at-rec = w.record_at-rec }; form_in-form = w.form_in-form }; stage-1 = w.stage-1 }; fits = w.fits }; if-not-fits = w.if-not-fits }; is_numbered = w.is_numbered }; if-is_numbered = w.if-is_numbered }; values_fault = w.values_fault }; in-Err-values_fault = w.in-Err-values_fault }; refused-judgement-in-Err-values_fault = w.refused-judgement-in-Err-values_fault } in
     let o = leaves-bad-value q in
     (w.judgement-is ∙ o.0, o.1))))))
     c.if-k-clean.branch-raw
@@ -635,6 +641,8 @@ judge_from_spec =
     carries-requires
     misread-requires-2
     values-in-requires
+    enum-known-read
+    enum-known-position
     add-refused
     refused-requires
     values-fault-requires

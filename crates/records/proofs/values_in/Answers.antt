@@ -3,6 +3,7 @@ use Prim.Native.Nat.{ℕ, ◌-◌, ◌≤◌}
 use native.Mathlib.Omega.{arith}
 use mathlib.Core.List.{List, ◌++◌, map}
 use lib.ListN.{length, take, drop, get_or, replicate}
+use Rattle.std.specs.Prelude.{Err}
 use Rattle.records.proofs.FieldByField.{inside, in_four, field_is, field-within, non-digit-near, bad-on, bad-here, bad-end, read-on, read-end}
 use Rattle.rules.specs.Checks.{bad_fields}
 use Rattle.layout.specs.declared.Field.{Field}
@@ -40,7 +41,7 @@ abbrev AtField : Type 0
 AtField = In-loop-f
 
 abbrev loop-of : AtField → AtLoop
-loop-of c = (goal.at.offset_bounds-list-f c).At-loop-f
+loop-of c = (goal.at.offset_bounds-fields-f c).At-loop-f
 
 abbrev f-of : AtField → ℕ
 f-of c = (loop-of c).loop-f.f
@@ -53,11 +54,11 @@ read p q d e s =
 pub loop-f-init : goal.loop-f-init
 loop-f-init c = λ q e. (omega arith, refl, refl)
 
-pub offset_bounds-list-f : goal.offset_bounds-list-f
-offset_bounds-list-f c = omega (arith, in_four (kind (loop-of c)) (fs (loop-of c)) (listed-are (loop-of c)) (f-of c) c.loop-f-test.true)
+pub offset_bounds-fields-f : goal.offset_bounds-fields-f
+offset_bounds-fields-f c = omega (arith, in_four (kind (loop-of c)) (fs (loop-of c)) (listed-are (loop-of c)) (f-of c) c.loop-f-test.true)
 
-pub bounds-list-f : goal.bounds-list-f
-bounds-list-f c = in_four (kind (loop-of c)) (fs (loop-of c)) (listed-are (loop-of c)) (f-of c) c.loop-f-test.true
+pub bounds-fields-f : goal.bounds-fields-f
+bounds-fields-f c = in_four (kind (loop-of c)) (fs (loop-of c)) (listed-are (loop-of c)) (f-of c) c.loop-f-test.true
 
 pub read_field-said-requires : goal.read_field-said-requires
 read_field-said-requires c = (c.requires, field-within (kind (loop-of (goal.at.read_field-said-requires c).In-loop-f)) (fs (loop-of (goal.at.read_field-said-requires c).In-loop-f)) (listed-are (loop-of (goal.at.read_field-said-requires c).In-loop-f)) (f-of (goal.at.read_field-said-requires c).In-loop-f) c.loop-f-test.true)
@@ -75,16 +76,13 @@ returns-in_default c =
     let p = (goal.at.returns-in_default c).In-loop-f in
     let l = loop-of p in
     let h = inside (kind l) (fs l) (listed-are l) (f-of p) p.loop-f-test.true in
-    rw ((held l).1 ∙ bad-here _ _ _ h _ (read p (kind l) _ (listed-are l) r.read_field-said.ensures) (ap is_err c.in_default.is)) (ap (λ (n : ℕ). record { bad = n; values = replicate 4 0 }) (c.non_digit_at.ensures ∙ ap (λ (x : Field). non_digit_at x r.read_field-said.result) (field_is (kind l) (fs l) (listed-are l) (f-of p) p.loop-f-test.true)))
+    rw ((held l).1 ∙ bad-here _ _ _ h _ (read p (kind l) _ (listed-are l) r.read_field-said.ensures) (ap is_err c.in_default.is)) (ap Err (c.non_digit_at.ensures ∙ ap (λ (x : Field). non_digit_at x r.read_field-said.result) (field_is (kind l) (fs l) (listed-are l) (f-of p) p.loop-f-test.true)))
 
 pub offset_bounds-values-f : goal.offset_bounds-values-f
 offset_bounds-values-f c = let q = (goal.at.offset_bounds-values-f c).In-loop-f in omega (arith, in_four (kind (loop-of q)) (fs (loop-of q)) (listed-are (loop-of q)) (f-of q) q.loop-f-test.true)
 
 pub bounds-values-f : goal.bounds-values-f
 bounds-values-f c = let q = (goal.at.bounds-values-f c).In-loop-f in in_four (kind (loop-of q)) (fs (loop-of q)) (listed-are (loop-of q)) (f-of q) q.loop-f-test.true
-
-pub overflow_add-f : goal.overflow_add-f
-overflow_add-f c = let q = (goal.at.overflow_add-f c).In-loop-f in omega (arith, in_four (kind (loop-of q)) (fs (loop-of q)) (listed-are (loop-of q)) (f-of q) q.loop-f-test.true)
 
 pub loop-f-smaller : goal.loop-f-smaller
 loop-f-smaller c = let q = (goal.at.loop-f-smaller c).In-loop-f in omega (arith, q.loop-f-test.true)
