@@ -24,12 +24,9 @@ fn balance_fields(s: usize) -> Fields
     if section.totals {
         let debit = layout::amount_at(section.total_debit);
         let credit = layout::amount_at(section.total_credit);
-        return Fields {
-            count: 4,
-            fields: [debit, credit, sign, balance],
-        };
+        return layout::listed(&[debit, credit, sign, balance]);
     }
-    layout::two_fields(sign, balance)
+    layout::listed(&[sign, balance])
 }
 
 // The fields that rebalancing writes in a record of a kind, in the order of position.
@@ -38,13 +35,13 @@ fn written_fields(k: Kind) -> Fields
 {
     match k {
         Kind::Balance(s) => balance_fields(s),
-        Kind::Payment => layout::one_field(layout::FINAL_BALANCE),
-        Kind::Tail => layout::three_fields(
+        Kind::Payment => layout::listed(&[layout::FINAL_BALANCE]),
+        Kind::Tail => layout::listed(&[
             layout::TAIL_DELEGHE,
             layout::TAIL_SUM,
             layout::TAIL_RECORDS,
-        ),
-        _ => layout::no_fields(),
+        ]),
+        _ => layout::listed(&[]),
     }
 }
 

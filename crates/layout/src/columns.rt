@@ -1,5 +1,5 @@
 // The numeric fields of each kind of record, in the order of position.
-ghost use Rattle.std.specs.Prelude.{◌≡◌, [], ◌∷◌, ◌≤◌, length};
+ghost use Rattle.std.specs.Prelude.{◌≡◌, ◌≤◌, length};
 ghost use Rattle.layout.specs.Fields.{fields_of, listed, amount_at};
 
 use crate::{Amount, Field, Fields, Kind, Position, section_at};
@@ -59,31 +59,6 @@ pub fn listed(list: &[Field]) -> Fields
         count: list.len(),
         fields,
     }
-}
-
-// The same of no field, and of one, two and three.
-pub fn no_fields() -> Fields
-    ensures { result ≡ listed [] }
-{
-    listed(&[])
-}
-
-pub fn one_field(a: Field) -> Fields
-    ensures { result ≡ listed (a ∷ []) }
-{
-    listed(&[a])
-}
-
-pub fn two_fields(a: Field, b: Field) -> Fields
-    ensures { result ≡ listed (a ∷ b ∷ []) }
-{
-    listed(&[a, b])
-}
-
-pub fn three_fields(a: Field, b: Field, c: Field) -> Fields
-    ensures { result ≡ listed (a ∷ b ∷ c ∷ []) }
-{
-    listed(&[a, b, c])
 }
 
 fn line_fields(s: usize) -> Fields

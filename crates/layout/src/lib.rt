@@ -10,8 +10,7 @@ ghost use Rattle.std.specs.Prelude.{◌≡◌};
 ghost use Rattle.layout.specs.Sections.{section_at};
 
 pub use columns::{
-    FINAL_BALANCE, TAIL_DELEGHE, TAIL_RECORDS, TAIL_SUM, amount_at, fields_of, listed, no_fields,
-    one_field, three_fields, two_fields,
+    FINAL_BALANCE, TAIL_DELEGHE, TAIL_RECORDS, TAIL_SUM, amount_at, fields_of, listed,
 };
 pub use forms::{form_in, is_numbered, type_by};
 pub use kinds::{balance_of, section_kind};
