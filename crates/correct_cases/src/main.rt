@@ -14,7 +14,7 @@ const ROOM: usize = Flow::MOST_BYTES + 2;
 // Makes a call, and prints what comes of it.
 fn make(rt: &HostRuntime, flow: &mut [u8], expected: &[u8], call: Numbers) {
     match correct::correct(
-        &mut *flow,
+        flow,
         call.first,
         call.second,
         call.third,

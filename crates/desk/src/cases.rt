@@ -165,12 +165,12 @@ fn next_case<R: Read>(
 ) -> Option<usize>
     ensures { IfSome result (λ n. n ≤ length room.old) }
 {
-    if read_full(cases, &mut *head) < head.len() {
+    if read_full(cases, head) < head.len() {
         return None;
     }
     print_name(rt, head);
     let n = length_in(head);
-    if !read_next(cases, &mut *room, n) {
+    if !read_next(cases, room, n) {
         return None;
     }
     Some(n)

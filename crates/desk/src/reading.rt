@@ -50,7 +50,7 @@ pub fn count_words(rt: &HostRuntime) -> usize {
 pub fn word_at(rt: &HostRuntime, i: usize, room: &mut [u8]) -> usize
     ensures { result ≤ length room.old }
 {
-    rt.arg(i, &mut *room).unwrap_or(0)
+    rt.arg(i, room).unwrap_or(0)
 }
 
 // Why an argument is not in a room, as the system has it.
@@ -65,7 +65,7 @@ fn why_not(missing: FillError) -> io::Error {
 pub fn path_at(rt: &HostRuntime, i: usize, room: &mut [u8]) -> io::Result<usize>
     ensures { IfOk result (λ n. n ≤ length room.old) }
 {
-    rt.arg(i, &mut *room).map_err(why_not)
+    rt.arg(i, room).map_err(why_not)
 }
 
 // A name as the library asks the system for it.
@@ -122,7 +122,7 @@ impl Command<'_> {
     pub fn name_at(&self, name: &str, i: usize, room: &mut [u8]) -> Option<usize>
         ensures { IfSome result (λ n. n ≤ length room.old) }
     {
-        match self.rt.arg(i, &mut *room) {
+        match self.rt.arg(i, room) {
             Ok(n) => Some(n),
             Err(FillError::NotPresent) if 0 < room.len() => {
                 room[0] = b'-';

@@ -198,7 +198,7 @@ impl Target<'_> {
 
     // Makes the new file, and has it take the old one's place. Until then it is for nobody but its maker to read.
     fn saved_as(&self, done: &str, new: &mut [u8], flow: &[u8]) -> bool {
-        match create_beside(self.command.rt, &mut *new, 0o600) {
+        match create_beside(self.command.rt, new, 0o600) {
             Ok(file) => self.put_in_place(done, file, new, flow),
             Err(why) => self.unsaved(
                 " is as it was, since no new file can be made beside it",

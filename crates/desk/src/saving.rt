@@ -22,8 +22,8 @@ pub fn put_name(room: &mut [u8], path: &[u8]) -> usize
     if room.len() < 7 || room.len() - 7 < path.len() {
         return 0;
     }
-    text::put_part(&mut *room, 0, path);
-    text::put_part(&mut *room, path.len(), b".XXXXXX");
+    text::put_part(room, 0, path);
+    text::put_part(room, path.len(), b".XXXXXX");
     path.len() + 7
 }
 
@@ -68,7 +68,7 @@ pub fn create_beside(rt: &HostRuntime, name: &mut [u8], mode: u32) -> io::Result
         return Err(io::Error::from_raw_os_error(NO_ARGUMENT));
     }
     for _ in 0..MOST_NAMES {
-        choose(rt, &mut *name)?;
+        choose(rt, name)?;
         match create(rt, name, mode) {
             Err(why) if why.kind() == ErrorKind::AlreadyExists => {}
             made => return made,

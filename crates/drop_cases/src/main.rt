@@ -17,7 +17,7 @@ const MOST_NUMBERS: usize = 600;
 
 // Drops deleghe from a flow, and prints what comes of it.
 fn make(rt: &HostRuntime, flow: &mut [u8], expected: &[u8], numbers: &[u64]) {
-    match dropping::drop_deleghe(&mut *flow, numbers) {
+    match dropping::drop_deleghe(flow, numbers) {
         Ok(length) => {
             desk::print_counted(rt, "DROPPED", length);
             desk::print_comparison(rt, flow, expected);
@@ -56,7 +56,7 @@ fn make_with(
 fn one_case(rt: &HostRuntime, cases: &mut File, call: Numbers, flow: &mut [u8]) -> bool {
     let n = flow.len();
     let mut expected = [0u8; ROOM];
-    desk::read_next(&mut *cases, &mut expected, n)
+    desk::read_next(cases, &mut expected, n)
         && make_with(rt, cases, flow, &expected[..n], call.first as usize)
 }
 

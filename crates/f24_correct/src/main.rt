@@ -17,7 +17,7 @@ struct Call {
 fn correct_flow(target: &Target, flow: &mut [u8], call: Call) {
     let rt = target.command.rt;
     match correct::correct(
-        &mut *flow,
+        flow,
         call.delega,
         call.subtype,
         call.nth,

@@ -30,7 +30,7 @@ fn judge_open(command: &Command, word: &[u8], source: &mut Source) -> Option<Cou
     let mut course = ep::start();
     let mut room = [0u8; RECORD];
     for _ in 0..MOST_PIECES {
-        let n = command.read_open(word, &mut *source, &mut room)?;
+        let n = command.read_open(word, source, &mut room)?;
         if n == 0 {
             return Some(course);
         }

@@ -23,7 +23,7 @@ fn kept(target: &Target, flow: &[u8], count: usize) -> bool {
 fn rebalance_flow(target: &Target, flow: &mut [u8]) {
     let rt = target.command.rt;
     let mut list = [0u64; MOST_CHANGED];
-    match mend::mend(&mut *flow, &mut list) {
+    match mend::mend(flow, &mut list) {
         Ok(count) => {
             if kept(target, flow, count) {
                 print_rebalanced(rt, flow, &list, count);
@@ -36,7 +36,7 @@ fn rebalance_flow(target: &Target, flow: &mut [u8]) {
 // Rebalances a flow in memory alone.
 fn try_flow(rt: &HostRuntime, flow: &mut [u8]) {
     let mut list = [0u64; MOST_CHANGED];
-    match mend::mend(&mut *flow, &mut list) {
+    match mend::mend(flow, &mut list) {
         Ok(count) => print_rebalanced(rt, flow, &list, count),
         Err(why) => desk::print_refusal(rt, why),
     }

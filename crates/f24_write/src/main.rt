@@ -87,7 +87,7 @@ impl NewFile<'_> {
 
     // Makes the file beside, with the rights of any new file, and has it become the new file.
     fn saved_as(&self, beside: &mut [u8], flow: &[u8]) -> bool {
-        match desk::create_beside(self.command.rt, &mut *beside, NEW_MODE) {
+        match desk::create_beside(self.command.rt, beside, NEW_MODE) {
             Ok(file) => self.saved_from(file, beside, flow),
             Err(why) => self.unsaved(" is not made, since no file can be made beside it", why),
         }

@@ -40,7 +40,7 @@ fn print_kept(rt: &HostRuntime, list: &[u64], count: usize) {
 
 // Rebalances a flow, and prints what comes of it.
 fn make(rt: &HostRuntime, flow: &mut [u8], expected: &[u8], list: &mut [u64]) {
-    match mend::mend(&mut *flow, &mut *list) {
+    match mend::mend(flow, list) {
         Ok(count) => {
             desk::print_counted(rt, "REBALANCED", count);
             desk::print_changes(rt, list, count);

@@ -22,7 +22,7 @@ fn mark(room: &mut [u8]) {
 
 // Writes the flow of a sheet, and prints what comes of it.
 fn make(rt: &HostRuntime, sheet: &[u8], room: &mut [u8], expected: &[u8]) {
-    match write::write(sheet, &mut *room) {
+    match write::write(sheet, room) {
         Ok(length) => {
             desk::print_counted(rt, "WRITTEN", length);
             desk::print_comparison(rt, room, expected);
