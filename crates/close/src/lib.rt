@@ -80,6 +80,7 @@ fn move_up(flow: &mut [u8], numbers: &[u64]) -> usize
         records: 0,
         deleghe: 0,
     };
+    // Kept: by numbers: a record is moved within the flow, to before where it stood, which chunks don't let.
     for k in 0..flow.len() / Flow::RECORD {
         kept = keep(flow, k, kept, numbers);
     }

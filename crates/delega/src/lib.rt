@@ -18,6 +18,7 @@ use rules::State;
 
 // The verdict beside the delega's final balance, the number of its lines, the set of the sections that it uses with its size and its first, and its sums of each of
 // the five sections. All are zeros with a refusal.
+// Kept: no Result of the numbers, since the theorem `refused-zeros` speaks of the zeros.
 #[derive(Clone, Copy)]
 pub struct DelegaAnswer {
     pub verdict: Result<(), Refusal>,

@@ -17,9 +17,14 @@ pub fn print_refusal(rt: &HostRuntime, why: Refusal) {
     print_bytes(rt, &text[..n]);
 }
 
-// An acceptance of records of the F24 EP form: how many payments they are, and the sum of their totals.
-pub fn print_payments(rt: &HostRuntime, count: u64, sum: u64) {
-    let _ = println!(rt; "ACCEPTED {count} {sum}");
+// What is answered of records of the F24 EP form: how many payments they are, and the sum of their totals, or the refusal.
+pub fn print_payments(rt: &HostRuntime, answer: Result<(u64, u64), Refusal>) {
+    match answer {
+        Ok((count, sum)) => {
+            let _ = println!(rt; "ACCEPTED {count} {sum}");
+        }
+        Err(why) => print_refusal(rt, why),
+    }
 }
 
 // What the desk is shown of one delega: its numbers and then its sums, or the refusal.

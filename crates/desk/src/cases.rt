@@ -42,7 +42,7 @@ pub fn run_cases<const ROOM: usize, F: Fn(&HostRuntime, &mut File, Numbers, &mut
     };
     for _ in 0..MOST_CASES {
         let mut head = [0u8; CALL_HEADER];
-        // Kept: no heap: the flow lies in a room of fixed length, and beside it how much of it there is.
+        // Kept: no heap: a case is read into a room of fixed length, and a slice of it goes on.
         let mut room = [0u8; ROOM];
         let Some(n) = next_case(rt, &mut cases, &mut head[..header], &mut room) else {
             break;

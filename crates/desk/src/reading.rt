@@ -180,7 +180,7 @@ impl Command<'_> {
     pub fn with_flow<F: FnOnce(&mut [u8])>(&self, i: usize, act: F)
         requires { F.IsAlwaysCallable act }
     {
-        // Kept: no heap: the flow lies in a room of fixed length, and beside it how much of it there is.
+        // Kept: no heap: the flow is read into a room of fixed length, and a slice of it goes on.
         let mut room = [0u8; Flow::MOST_BYTES + 1];
         if let Some(n) = self.read_word("FILE", i, &mut room) {
             act(&mut room[..n]);

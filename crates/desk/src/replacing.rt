@@ -127,6 +127,7 @@ impl Command<'_> {
         let Some(mut old) = self.open_old(path) else {
             return;
         };
+        // Kept: no heap, as in `with_flow`.
         let mut room = [0u8; Flow::MOST_BYTES + 1];
         let Some(n) = self.read_open(path, &mut old.file, &mut room) else {
             return;

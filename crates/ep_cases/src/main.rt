@@ -3,25 +3,14 @@
 #![tactic(auto)]
 
 use desk::Numbers;
-use ep::Payments;
-use refusal::Refusal;
 use std::fs::File;
 
 // The room takes 100,000 bytes, which no case exceeds, and the line end.
 const ROOM: usize = 100_001;
 
-// An answer, as it is printed.
-// Kept: f24_ep has the same lines, and one function for both were no plainer: desk rests on no crate of the form, and each program on desk would list four more.
-fn print_answer(rt: &HostRuntime, answer: Result<Payments, Refusal>) {
-    match answer {
-        Ok(payments) => desk::print_payments(rt, payments.count, payments.sum),
-        Err(why) => desk::print_refusal(rt, why),
-    }
-}
-
 // Judges the records of a case.
 fn one_case(rt: &HostRuntime, _cases: &mut File, _call: Numbers, records: &mut [u8]) -> bool {
-    print_answer(rt, ep::ep_judge(records));
+    desk::print_payments(rt, ep::ep_judge(records).map(|all| (all.count, all.sum)));
     true
 }
 

@@ -54,22 +54,13 @@ fn answer_open(
     Some(ep::answered(course))
 }
 
-// An answer, as it is printed.
-// Kept: ep_cases has the same lines, and one function for both were no plainer: desk rests on no crate of the form, and each program on desk would list four more.
-fn print_answer(rt: &HostRuntime, answer: Result<Payments, Refusal>) {
-    match answer {
-        Ok(payments) => desk::print_payments(rt, payments.count, payments.sum),
-        Err(why) => desk::print_refusal(rt, why),
-    }
-}
-
 // Judges what a word names. Where it cannot be read, that has been said, and there is no answer.
 fn judge_named(command: &Command, word: &[u8]) {
     let Some(mut source) = command.open_named(word) else {
         return;
     };
     if let Some(answer) = answer_open(command, word, &mut source) {
-        print_answer(command.rt, answer);
+        desk::print_payments(command.rt, answer.map(|all| (all.count, all.sum)));
     }
 }
 

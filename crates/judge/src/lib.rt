@@ -29,6 +29,7 @@ pub struct Summary {
 }
 
 // The verdict, acceptance or the refusal, beside the summary, which is all zeros with a refusal.
+// Kept: no Result of a summary, since the theorem `refused-zeros` speaks of the zeros.
 #[derive(Clone, Copy)]
 pub struct Judgement {
     pub verdict: Result<(), Refusal>,

@@ -9,6 +9,7 @@ use refusal::Refusal;
 use sums::KeptSums;
 
 // The verdict on a flow, and the record that is made of it: zeros with a refusal.
+// Kept: no Result of the record, since the theorem `kept-refused` speaks of the zeros.
 #[derive(Clone, Copy)]
 pub struct Keeping {
     pub verdict: Result<(), Refusal>,

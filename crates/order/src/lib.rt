@@ -11,6 +11,7 @@ use refusal::Fault;
 // The stage in the order of records: what the last record was, and for a line or a balance of which section; the open section's lines.
 #[derive(Clone, Copy)]
 pub struct Stage {
+    // Kept: the room between two calls of a judgement by portions holds the phase as a number, and `possible` of portion refuses the numbers above the last.
     pub phase: u8,
     pub section: usize,
     pub lines: u64,

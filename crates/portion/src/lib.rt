@@ -36,6 +36,7 @@ pub struct Progress {
 
 // What a call answers: how the judgement stands, how many records have been examined so far, the summary, which is all zeros unless the flow is accepted, and
 // what the next call goes on from.
+// Kept: no summary within the answer, since the theorems `foreign-then` and `series-goes-on` speak of the zeros beside it.
 #[derive(Clone, Copy)]
 pub struct Portion {
     pub answer: Course,

@@ -170,7 +170,7 @@ pub fn rebalance(flow: &mut [u8])
     ensures { flow.new ≡ flat (rebalanced start_state (records_of flow.old)) }
 {
     let mut st = rules::start();
-    // Kept: by numbers, and not by `chunks_exact_mut`: what stayed open is that the flow is then its chunks as they were left, of which the contract says nothing.
+    // Kept: by numbers, and not by `chunks_exact_mut`: what stayed open is that the flow is then its chunks as they were left; once that borrow is over, a proof knows the length alone.
     for k in 0..flow.len() / Flow::RECORD {
         let at = k * Flow::RECORD;
         st = settle(&mut flow[at..at + Flow::RECORD], st);

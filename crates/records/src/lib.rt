@@ -91,6 +91,7 @@ pub fn clean_records(flow: &[u8], seen: usize) -> usize
     let count = flow.len() / Flow::RECORD;
     let mut k = seen;
     let mut block: usize = 128;
+    // Kept: no count to go over: each turn goes on by a block, or halves it.
     while k < count {
         block = block.min(count - k);
         if text::long_allowed(&flow[k * Flow::RECORD..(k + block) * Flow::RECORD]) {

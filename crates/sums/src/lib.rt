@@ -32,6 +32,7 @@ pub fn of_lines(flow: &[u8]) -> KeptSums
 fn same(a: KeptSums, b: KeptSums) -> bool
     ensures { result ≡ same_sums a.sums b.sums }
 {
+    // Kept: no `==`, since the edits credits_not_compared and credits_not_compared_in_both leave the credits out here.
     for (x, y) in a.sums.iter().zip(b.sums.iter()) {
         if x.debit != y.debit || x.credit != y.credit {
             return false;
