@@ -53,20 +53,15 @@ lenient-mends name m st (r ∷ rs) l e f =
     let b = both_true (fits_all (stored_of st (kind_in r))) (all_fit (next st r) rs) f in
     (l.0, passed-kept name m st r a.0, b.0, lenient-mends name m (next st r) rs l.1 a.1 b.1)
 
--- Where no record is known to be a misfit, none is refused for it.
-no-misfit : (n : ℕ) → misfit_fault None n ≡ Pass
-unfolding misfit_fault
-no-misfit n = refl
-
 -- A check that has passed says nothing when it is made again.
 first-twice : (a b : Outcome) → first a (first a b) ≡ first a b
 first-twice Pass b = refl
 first-twice (Err why) b = refl
 
--- The checks that rebalancing leaves alone speak then.
+-- Where no record is known to be a misfit, the checks that rebalancing leaves alone speak.
 pub lenient-kept : (name : List ℕ) (st : State) (r : List ℕ) → lenient_fault name None st r ≡ kept_fault name st r
-unfolding lenient_fault kept_fault
-lenient-kept name st r = rw (no-misfit st.seen) (first-twice (char_fault (first_bad r)) _)
+unfolding lenient_fault misfit_fault kept_fault
+lenient-kept name st r = first-twice (char_fault (first_bad r)) _
 
 -- Records that pass every check, up to and with the tail, pass leniently.
 pub strict-lenient : (name : List ℕ) (st : State) (rs : List (List ℕ)) → Sized rs → NoFault name st rs → (state_after st rs).stage.phase ≡ after_tail → lenient_from name None st rs ≡ Passed

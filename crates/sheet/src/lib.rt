@@ -14,7 +14,7 @@ use layout::{Flow, Kind, Part};
 use lenient::Misfit;
 use text::DigitsError;
 
-// A spot in a sheet: how many bytes have been read, how many records that makes in the flow, and the first of them that is not of its slot's kind, where one is not.
+// A spot in a sheet: how many bytes have been read, how many records that makes in the flow, and the first of them that is not of its slot's kind, where there is one.
 #[derive(Clone, Copy)]
 pub struct Spot {
     pub at: usize,
