@@ -8,7 +8,7 @@ ghost use Rattle.rules.specs.Checks.{bad_fields, negative_fault, tail_name, own_
 ghost use Rattle.judge.specs.Flow.{records_of, head_name_of};
 ghost use Rattle.judge.specs.Plain.{Whole};
 ghost use Rattle.rebalance.specs.Rebalance.{kept_fields};
-ghost use Rattle.lenient.specs.Lenient.{ended, lenient_from};
+ghost use Rattle.lenient.specs.Lenient.{misfit_fault, ended, lenient_from};
 ghost use Rattle.lenient.specs.Inner.{kept_of, lenient_of};
 
 use amounts::Sums;
@@ -16,6 +16,13 @@ use layout::{Flow, Kind, Part, Position};
 use order::Stage;
 use refusal::{Fault, Refusal};
 use rules::State;
+
+// The record that is known to stand in a place of another kind, counted from 1, and the position that is told.
+#[derive(Clone, Copy)]
+pub struct Misfit {
+    pub at: usize,
+    pub position: usize,
+}
 
 // How many numeric fields of a record are not stored. They are its first ones.
 fn kept_count(k: Kind) -> usize
@@ -116,25 +123,33 @@ fn kept_fault(st: State, name: &[u8], rec: &[u8], kind: Kind) -> Result<(), Faul
     own_fault(st, name, rec, kind)
 }
 
+// The 4 of the known misfit, where it is the record behind n others.
+fn misfit_fault(misfit: Option<Misfit>, n: usize) -> Result<(), Fault>
+    requires { n < 1000 }
+    ensures { result ≡ misfit_fault misfit n }
+{
+    match misfit {
+        Some(known) if known.at == n + 1 => Err(Fault {
+            number: 4,
+            position: known.position,
+        }),
+        _ => Ok(()),
+    }
+}
+
 // The first failed check of a record of a kind, among those that stay. The 4 of the known misfit comes behind 3, and before the record's own.
 fn record_fault(
     st: State,
     name: &[u8],
     rec: &[u8],
     kind: Kind,
-    misfit: usize,
-    position: usize,
+    misfit: Option<Misfit>,
 ) -> Result<(), Fault>
     requires { (length rec.now ≡ 120) × (st.seen < 1000) × (st.deleghe < 1000) }
-    ensures { result ≡ lenient_of name.now misfit position st kind rec.now }
+    ensures { result ≡ lenient_of name.now misfit st kind rec.now }
 {
     records::char_fault(rec)?;
-    if misfit == st.seen + 1 {
-        return Err(Fault {
-            number: 4,
-            position,
-        });
-    }
+    misfit_fault(misfit, st.seen)?;
     kept_fault(st, name, rec, kind)
 }
 
@@ -153,17 +168,17 @@ fn ended(st: State) -> Result<(), Refusal>
     })
 }
 
-// The lenient judgement of a flow of whole records: the refusal by the checks that stay, or none. The record whose number is `misfit`, where that is not 0, is known to stand in a place of another kind, and is
-// refused with 4 at that position.
-pub fn judge_kept(flow: &[u8], misfit: usize, position: usize) -> Result<(), Refusal>
+// The lenient judgement of a flow of whole records: the refusal by the checks that stay, or none. The record `misfit`, where there is one, is known to stand in a place of another kind, and is refused with 4
+// at its position.
+pub fn judge_kept(flow: &[u8], misfit: Option<Misfit>) -> Result<(), Refusal>
     requires { Whole flow.now }
-    ensures { result ≡ lenient_from (head_name_of flow.now) misfit position start_state (records_of flow.now) }
+    ensures { result ≡ lenient_from (head_name_of flow.now) misfit start_state (records_of flow.now) }
 {
     let name = &flow[Part::SUPPORT_NAME..Part::SUPPORT_NAME_END];
     let mut st = rules::start();
     for rec in flow.chunks_exact(Flow::RECORD) {
         let kind = records::kind_in(rec);
-        if let Err(fault) = record_fault(st, name, rec, kind, misfit, position) {
+        if let Err(fault) = record_fault(st, name, rec, kind, misfit) {
             return Err(fault.in_record(st.seen + 1));
         }
         st = rules::next_state(st, kind, records::line_sums(rec, kind));

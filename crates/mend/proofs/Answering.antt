@@ -1,4 +1,5 @@
 -- What is answered to a flow: 1 or 2 by its length, a fault that remains, or what is weighed behind it.
+use Rattle.std.specs.Prelude.{None}
 use Prim.Native.Nat.{ℕ, ◌%◌, ◌<◌, ◌≤◌}
 use mathlib.Core.Path.{◌≡◌, refl, sym, ◌∙◌}
 use mathlib.Core.List.{List}
@@ -56,7 +57,7 @@ module _ (f : List ℕ) where
     unfolding remaining
     remaining-records n e = rw (le-ltb _ _ short, ne_eqb _ _ n, eq-eqb _ _ e)
 
-    pub remaining-whole : (length f ≡ 0 → ⊥) → length f % 120 ≡ 0 → remaining f ≡ lenient_from (head_name_of f) 0 0 start_state (records_of f)
+    pub remaining-whole : (length f ≡ 0 → ⊥) → length f % 120 ≡ 0 → remaining f ≡ lenient_from (head_name_of f) None start_state (records_of f)
     remaining-whole n e = remaining-records n e ∙ sym (remaining-lenient (head_name_of f) start_state (records_of f))
 
   -- A flow in which no fault remains is of whole records.

@@ -1,4 +1,5 @@
 -- The flow after rebalancing: it is accepted with the sums of its lines; an accepted flow and its list stay as they came, and so a second rebalancing changes nothing; so does a refusal.
+use Rattle.std.specs.Prelude.{None}
 use Prim.Native.Nat.{ℕ, ◌*◌, ◌≤◌}
 use mathlib.Core.Path.{◌≡◌, refl, sym, ap, ◌∙◌}
 use mathlib.Core.Bool.{true}
@@ -42,7 +43,7 @@ module _ (f : List ℕ) (m : Mends f) where
   unfolding refreshed
   fitting-accepted b =
       let w = m.whole in
-      judged-rebalanced f w (lenient-mends (head_name_of f) 0 0 start_state (records_of f) (sized-records f w.even) (remaining-lenient (head_name_of f) start_state (records_of f) ∙ all-remain (head_name_of f) start_state (records_of f) m.passes m.ended) b)
+      judged-rebalanced f w (lenient-mends (head_name_of f) None start_state (records_of f) (sized-records f w.even) (remaining-lenient (head_name_of f) start_state (records_of f) ∙ all-remain (head_name_of f) start_state (records_of f) m.passes m.ended) b)
 
   -- "then 23": its values fit exactly where it is accepted once it is rebalanced.
   pub fits-exactly : (all_fit start_state (records_of f) ≡ true) ↔ ((judged (refreshed f)).verdict ≡ Accepted)

@@ -1,5 +1,5 @@
 -- The faults that remain in records, one by one: none where each passes and the last is EF, else that of the first record that has one, else 5.
-use Rattle.std.specs.Prelude.{Err}
+use Rattle.std.specs.Prelude.{Err, None}
 use Prim.Native.Nat.{ℕ, suc, ◌+◌}
 use mathlib.Core.Path.{◌≡◌, refl, ap, ap₂, ◌∙◌}
 use mathlib.Core.List.{List, [], ◌∷◌, ◌++◌}
@@ -38,7 +38,7 @@ record-says name st r l = go (first_bad r) refl
 -- The records that are left, behind a state.
 module _ (name : List ℕ) where
   -- They are what the lenient judgement tells where no record is known to be a misfit.
-  pub remaining-lenient : (st : State) (rs : List (List ℕ)) → lenient_from name 0 0 st rs ≡ remaining_from name st rs
+  pub remaining-lenient : (st : State) (rs : List (List ℕ)) → lenient_from name None st rs ≡ remaining_from name st rs
   unfolding lenient_from remaining_from
   remaining-lenient st [] = refl
   remaining-lenient st (r ∷ rs) = ap₂ (λ (o : Outcome) (x : Lenient). or_refused o st.seen x) (lenient-kept name st r) (remaining-lenient (next st r) rs)

@@ -57,7 +57,7 @@ pub fn first_remaining(flow: &[u8]) -> Result<(), Refusal>
     if n == 0 || n % Flow::RECORD != 0 {
         return Err(Refusal::NO_WHOLE_RECORDS);
     }
-    lenient::judge_kept(flow, 0, 0)
+    lenient::judge_kept(flow, None)
 }
 
 // Rebalances a flow in place: every total, sign, balance, final balance and tail value is written from the lines, and each field that changes is listed by record

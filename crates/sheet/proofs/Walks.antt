@@ -6,7 +6,8 @@ use native.Mathlib.Omega.{arith}
 use lib.ListN.{length, take, drop, length-append}
 use Rattle.rebalance.specs.Rebalance.{flat}
 use Rattle.rebalance.proofs.Flat.{flat_append}
-use Rattle.sheet.specs.declared.Misfit.{Misfit}
+use Rattle.std.specs.Prelude.{Option}
+use Rattle.lenient.specs.declared.Misfit.{Misfit}
 use Rattle.sheet.specs.declared.Spot.{Spot}
 use Rattle.sheet.specs.Answers.{Walked}
 use Rattle.sheet.specs.Answers as Way
@@ -16,7 +17,7 @@ use Rattle.sheet.specs.Filled.{filled, filled_all}
 use Rattle.sheet.specs.Walk.{or_misfit, misfit_from, beyond_by, Here, Enters, Reaches, Follows}
 
 -- The first misfit of more records, behind those of which it is known.
-pub misfit-append : (name : List ℕ) (n : ℕ) (es fs : List Entry) (m : Misfit) → misfit_from name n (es ++ fs) m ≡ misfit_from name (n + length es) fs (misfit_from name n es m)
+pub misfit-append : (name : List ℕ) (n : ℕ) (es fs : List Entry) (m : Option Misfit) → misfit_from name n (es ++ fs) m ≡ misfit_from name (n + length es) fs (misfit_from name n es m)
 unfolding misfit_from
 misfit-append name n [] fs m = ap (λ (k : ℕ). misfit_from name k fs m) (let e : n ≡ n + 0 = omega arith in e)
 misfit-append name n (e ∷ es) fs m =

@@ -24,7 +24,8 @@ use Rattle.layout.specs.declared.Section.{Section}
 use Rattle.text.specs.Answers.{TooLong}
 use Rattle.text.specs.Numbers.{read_number, digits_of}
 use borrow.Author.Tests.{lt-ltb, le-ltb}
-use Rattle.sheet.specs.declared.Misfit.{Misfit}
+use Rattle.std.specs.Prelude.{Option}
+use Rattle.lenient.specs.declared.Misfit.{Misfit}
 use Rattle.sheet.specs.declared.Spot.{Spot}
 use Rattle.sheet.specs.Slots.{type_text, subtype_text, slot_fault, made_balance}
 use Rattle.sheet.specs.Walk.{count_at, or_misfit, Enters}
@@ -144,7 +145,7 @@ count-read w s l h k e =
     rw (le-ltb 15 (length l) (omega arith), le-ltb (length s) w h, e)
 
 -- One more record in the flow.
-pub entered : (name : List ℕ) (a : Spot) (flow r flow' : List ℕ) (e : Entry) (m : Misfit) → length flow ≡ 65520 → r ≡ filled name e → (length flow' ≡ 65520) × (a.count < 546 → take (a.count * 120 + 120) flow' ≡ take (a.count * 120) flow ++ r) → m ≡ or_misfit a.misfit (a.count + 1) (slot_fault e.slot r) → Enters name a flow e (record { at = a.at; count = a.count + 1; misfit = m }) flow'
+pub entered : (name : List ℕ) (a : Spot) (flow r flow' : List ℕ) (e : Entry) (m : Option Misfit) → length flow ≡ 65520 → r ≡ filled name e → (length flow' ≡ 65520) × (a.count < 546 → take (a.count * 120 + 120) flow' ≡ take (a.count * 120) flow ++ r) → m ≡ or_misfit a.misfit (a.count + 1) (slot_fault e.slot r) → Enters name a flow e (record { at = a.at; count = a.count + 1; misfit = m }) flow'
 entered name a flow r flow' e m l er w em =
     record {
       stays = refl;

@@ -1,10 +1,10 @@
 -- Serves inner functions. How far a sheet has been read, and what stands in the flow by then.
-use Rattle.std.specs.Prelude.{ℕ, ◌+◌, ◌*◌, ◌≤◌, ◌≡◌, cond, List, [], ◌∷◌, ◌++◌, eqb, ltb, length, take, drop, Err}
+use Rattle.std.specs.Prelude.{ℕ, ◌+◌, ◌*◌, ◌≤◌, ◌≡◌, cond, List, [], ◌∷◌, ◌++◌, ltb, length, take, drop, Err, Option, None, Some}
 use Rattle.text.specs.Answers.{Digits, TooLong}
 use Rattle.text.specs.Numbers.{number_of}
 use Rattle.refusal.specs.Outcomes.{Outcome, Pass}
 use Rattle.rebalance.specs.Rebalance.{flat}
-use Rattle.sheet.specs.declared.Misfit.{Misfit}
+use Rattle.lenient.specs.declared.Misfit.{Misfit}
 use Rattle.sheet.specs.declared.Spot.{Spot}
 use Rattle.sheet.specs.Answers.{Walked}
 use Rattle.sheet.specs.Answers as Way
@@ -13,18 +13,19 @@ use Rattle.sheet.specs.Sheet.{Entry, Reading, NoSheet, Read}
 use Rattle.sheet.specs.Filled.{filled, filled_all}
 
 -- the first record that is not of its slot's kind: the one so far, else the n-th where it is none
-abbrev pub or_misfit : Misfit → ℕ → Outcome → Misfit
-or_misfit m n Pass = m
-or_misfit m n (Err why) = cond (eqb m.at 0) (record { at = n; position = why.position }) m
+abbrev pub or_misfit : Option Misfit → ℕ → Outcome → Option Misfit
+or_misfit (Some m) n o = Some m
+or_misfit None n Pass = None
+or_misfit None n (Err why) = Some (record { at = n; position = why.position })
 
 -- the same of more records, behind the first n
-unfoldable pub misfit_from : List ℕ → ℕ → List Entry → Misfit → Misfit
+unfoldable pub misfit_from : List ℕ → ℕ → List Entry → Option Misfit → Option Misfit
 misfit_from name n [] m = m
 misfit_from name n (e ∷ es) m = misfit_from name (n + 1) es (or_misfit m (n + 1) (slot_fault e.slot (filled name e)))
 
 -- the start of a sheet
 abbrev pub start_spot : Spot
-start_spot = record { at = 0; count = 0; misfit = record { at = 0; position = 0 } }
+start_spot = record { at = 0; count = 0; misfit = None }
 
 -- the spot n bytes further on
 abbrev pub beyond_by : Spot → ℕ → Spot

@@ -11,21 +11,15 @@ ghost use Rattle.sheet.specs.Sheet.{entry, one_record, counted, lines_from, one_
 ghost use Rattle.sheet.specs.Walk.{count_at, start_spot, beyond_by, or_misfit, Here, Enters, Follows};
 
 use layout::{Flow, Kind, Part};
+use lenient::Misfit;
 use text::DigitsError;
 
-// The first record that is not of its slot's kind, counted from 1, and the position that is told; 0 where there is none.
-#[derive(Clone, Copy)]
-pub struct Misfit {
-    pub at: usize,
-    pub position: usize,
-}
-
-// A spot in a sheet: how many bytes have been read, how many records that makes in the flow, and the first of them that is not of its slot's kind.
+// A spot in a sheet: how many bytes have been read, how many records that makes in the flow, and the first of them that is not of its slot's kind, where there is one.
 #[derive(Clone, Copy)]
 pub struct Spot {
     pub at: usize,
     pub count: usize,
-    pub misfit: Misfit,
+    pub misfit: Option<Misfit>,
 }
 
 // The spot n bytes further on.
@@ -40,20 +34,17 @@ fn beyond(spot: Spot, n: usize) -> Spot
 }
 
 // The first record that is not of its slot's kind: the one so far, else the n-th where it is none.
-fn or_misfit(so_far: Misfit, n: usize, slot: Kind, rec: &[u8]) -> Misfit
+fn or_misfit(so_far: Option<Misfit>, n: usize, slot: Kind, rec: &[u8]) -> Option<Misfit>
     requires { length rec.now ≡ 120 }
     ensures { result ≡ or_misfit so_far n (slot_fault slot rec.now) }
 {
-    let Err(fault) = slots::slot_fault(slot, rec) else {
-        return so_far;
-    };
-    if so_far.at == 0 {
-        return Misfit {
+    match (so_far, slots::slot_fault(slot, rec)) {
+        (None, Err(fault)) => Some(Misfit {
             at: n,
             position: fault.position,
-        };
+        }),
+        _ => so_far,
     }
-    so_far
 }
 
 // Writes a record behind the others, where the flow has room for it: a sheet of more than 546 records is gone through all the same.
@@ -200,7 +191,7 @@ fn start() -> Spot
     Spot {
         at: 0,
         count: 0,
-        misfit: Misfit { at: 0, position: 0 },
+        misfit: None,
     }
 }
 

@@ -1,6 +1,7 @@
 -- The lenient judgement of the records put together gives the first fault of the records to be written: the first that is not of its slot's kind is all that has to be known of the slots.
-use Rattle.std.specs.Prelude.{Err}
-use Prim.Native.Nat.{ℕ, ◌+◌, ◌≤◌, ◌<◌}
+use Rattle.std.specs.Prelude.{Err, Option, None, Some}
+use Rattle.std.specs.Option.{unwrap_or}
+use Prim.Native.Nat.{ℕ, ◌+◌, ◌<◌}
 use mathlib.Core.Path.{◌≡◌, refl, sym, ap, ◌∙◌}
 use mathlib.Core.Bool.{Bool, true, false, cond}
 use mathlib.Core.List.{List, [], ◌∷◌}
@@ -20,8 +21,8 @@ use Rattle.judge.specs.Plain.{state_after}
 use Rattle.rebalance.specs.Rebalance.{kept_fault}
 use Rattle.lenient.specs.Answers.{Lenient}
 use Rattle.lenient.specs.Answers as Kept
+use Rattle.lenient.specs.declared.Misfit.{Misfit}
 use Rattle.lenient.specs.Lenient.{misfit_fault, lenient_fault, or_refused, ended, lenient_from}
-use Rattle.sheet.specs.declared.Misfit.{Misfit}
 use Rattle.sheet.specs.Slots.{type_text, subtype_text, slot_fault}
 use Rattle.sheet.specs.Sheet.{Entry}
 use Rattle.sheet.specs.Filled.{filled, filled_all}
@@ -29,27 +30,22 @@ use Rattle.sheet.specs.Walk.{or_misfit, misfit_from}
 use Rattle.write.specs.Writing.{entry_fault, entries_fault}
 
 -- The first misfit stays the first.
-misfit-stays : (name : List ℕ) (n : ℕ) (es : List Entry) (m : Misfit) → (m.at ≡ 0 → ⊥) → misfit_from name n es m ≡ m
+misfit-stays : (name : List ℕ) (n : ℕ) (es : List Entry) (x : Misfit) → misfit_from name n es (Some x) ≡ Some x
 unfolding misfit_from
-misfit-stays name n [] m z = refl
-misfit-stays name n (e ∷ es) m z = ap (misfit_from name (n + 1) es) (stays (slot_fault e.slot (filled name e))) ∙ misfit-stays name (n + 1) es m z
-  where
-    stays : (o : Outcome) → or_misfit m (n + 1) o ≡ m
-    stays Pass = refl
-    stays (Err why) = rw (ne_eqb m.at 0 z)
+misfit-stays name n [] x = refl
+misfit-stays name n (e ∷ es) x = misfit-stays name (n + 1) es x
 
 -- The first misfit of records behind n others is none of those.
-misfit-later : (name : List ℕ) (n : ℕ) (es : List Entry) (m : Misfit) → m.at ≡ 0 → (k : ℕ) → 0 < k → k ≤ n → (misfit_from name n es m).at ≡ k → ⊥
+misfit-later : (name : List ℕ) (n : ℕ) (es : List Entry) (x : Misfit) → misfit_from name n es None ≡ Some x → n < x.at
 unfolding misfit_from
-misfit-later name n [] m z k p l h = omega (arith, z, h)
-misfit-later name n (e ∷ es) m z k p l h = go (slot_fault e.slot (filled name e)) (misfit-later name (n + 1) es m z k p (omega arith)) h
+misfit-later name n [] x h = let z : ◌≡◌ {A = ℕ} 0 1 = cc in absurd (omega arith)
+misfit-later name n (e ∷ es) x h = go (slot_fault e.slot (filled name e)) (misfit-later name (n + 1) es x) h
   where
-    go : (o : Outcome) → ((misfit_from name (n + 1) es m).at ≡ k → ⊥) → (misfit_from name (n + 1) es (or_misfit m (n + 1) o)).at ≡ k → ⊥
-    go Pass rest i = rest i
+    go : (o : Outcome) → (misfit_from name (n + 1) es None ≡ Some x → n + 1 < x.at) → misfit_from name (n + 1) es (or_misfit None (n + 1) o) ≡ Some x → n < x.at
+    go Pass rest i = let l : n + 1 < x.at = rest i in omega arith
     go (Err why) rest i =
-        let x : Misfit = record { at = n + 1; position = why.position } in
-        let j : misfit_from name (n + 1) es (or_misfit m (n + 1) (Err why)) ≡ x = rw (eq-eqb m.at 0 z) (misfit-stays name (n + 1) es x (λ t. let u : n + 1 ≡ 0 = t in omega arith)) in
-        let v : n + 1 ≡ k = sym (ap (λ (y : Misfit). y.at) j) ∙ i in
+        let j = sym (misfit-stays name (n + 1) es (record { at = n + 1; position = why.position })) ∙ i in
+        let v : n + 1 ≡ x.at = ap (λ (m : Option Misfit). (unwrap_or m x).at) j in
         omega arith
 
 -- A slot's fault is a 4.
@@ -78,34 +74,32 @@ misfit-ends (Err why) q p n k x y = refl
 
 module _ (name : List ℕ) (st : State) (e : Entry) where
   -- A record of its slot's kind is judged alike where it is not told as the misfit,
-  alike-fitting : (m p : ℕ) → slot_fault e.slot (filled name e) ≡ Pass → (m ≡ st.seen + 1 → ⊥) → lenient_fault name m p st (filled name e) ≡ entry_fault name st e
+  alike-fitting : (m : Option Misfit) → slot_fault e.slot (filled name e) ≡ Pass → ((x : Misfit) → m ≡ Some x → st.seen + 1 < x.at) → lenient_fault name m st (filled name e) ≡ entry_fault name st e
   unfolding lenient_fault entry_fault misfit_fault
-  alike-fitting m p i h = rw (i, ne_eqb m (st.seen + 1) h)
+  alike-fitting None i h = rw i
+  alike-fitting (Some x) i h = rw (i, ne_eqb x.at (st.seen + 1) (λ z. let l : st.seen + 1 < x.at = h x refl in omega (arith, z)))
 
   -- and one of another kind where it is.
-  alike-misfit : (p : ℕ) → slot_fault e.slot (filled name e) ≡ Fails 4 p → lenient_fault name (st.seen + 1) p st (filled name e) ≡ entry_fault name st e
+  alike-misfit : (p : ℕ) → slot_fault e.slot (filled name e) ≡ Fails 4 p → lenient_fault name (Some (record { at = st.seen + 1; position = p })) st (filled name e) ≡ entry_fault name st e
   unfolding lenient_fault entry_fault misfit_fault
   alike-misfit p i = rw (i, eq-eqb (st.seen + 1) (st.seen + 1) refl)
 
   -- One turn of the judgement, with what is left behind it.
-  turn : (es : List Entry) (m : Misfit) (x y end : Lenient) (o : Outcome) → m.at ≡ 0 → slot_fault e.slot (filled name e) ≡ o → (o ≡ Pass → x ≡ behind_faults y end) → or_refused (lenient_fault name (misfit_from name (st.seen + 1) es (or_misfit m (st.seen + 1) o)).at (misfit_from name (st.seen + 1) es (or_misfit m (st.seen + 1) o)).position st (filled name e)) st.seen x ≡ behind_faults (or_refused (entry_fault name st e) st.seen y) end
+  turn : (es : List Entry) (x y end : Lenient) (o : Outcome) → slot_fault e.slot (filled name e) ≡ o → (o ≡ Pass → x ≡ behind_faults y end) → or_refused (lenient_fault name (misfit_from name (st.seen + 1) es (or_misfit None (st.seen + 1) o)) st (filled name e)) st.seen x ≡ behind_faults (or_refused (entry_fault name st e) st.seen y) end
   unfolding entry_fault
-  turn es m x y end Pass z i h =
-      let r = misfit_from name (st.seen + 1) es m in
-      ap (λ (o : Outcome). or_refused o st.seen x) (alike-fitting r.at r.position i (misfit-later name (st.seen + 1) es m z (st.seen + 1) (omega arith) (omega arith)))
+  turn es x y end Pass i h =
+      ap (λ (o : Outcome). or_refused o st.seen x) (alike-fitting (misfit_from name (st.seen + 1) es None) i (misfit-later name (st.seen + 1) es))
       ∙ (ap (or_refused (entry_fault name st e) st.seen) (h refl) ∙ sym (behind-or (entry_fault name st e) st.seen y end))
-  turn es m x y end (Err why) z i h =
+  turn es x y end (Err why) i h =
       let f : why.number ≡ 4 = slot-four e.slot (filled name e) why.number why.position i in
-      let r : Misfit = record { at = st.seen + 1; position = why.position } in
-      let j : misfit_from name (st.seen + 1) es (or_misfit m (st.seen + 1) (Err why)) ≡ r = rw (eq-eqb m.at 0 z) (misfit-stays name (st.seen + 1) es r (λ t. let u : st.seen + 1 ≡ 0 = t in omega arith)) in
-      ap (λ (w : Misfit). or_refused (lenient_fault name w.at w.position st (filled name e)) st.seen x) j
+      ap (λ (w : Option Misfit). or_refused (lenient_fault name w st (filled name e)) st.seen x) (misfit-stays name (st.seen + 1) es (record { at = st.seen + 1; position = why.position }))
       ∙ (ap (λ (o : Outcome). or_refused o st.seen x) (alike-misfit why.position (rw f at i))
       ∙ (rw i (misfit-ends (char_fault (first_bad (filled name e))) why.number why.position st.seen (kept_fault name st (filled name e)) x (behind_faults y end)) ∙ sym (behind-or (entry_fault name st e) st.seen y end)))
 
 -- The lenient judgement of records, none of them a misfit so far: their first fault, and else how they end.
-pub leniently : (name : List ℕ) (st : State) (es : List Entry) (m : Misfit) → m.at ≡ 0 → lenient_from name (misfit_from name st.seen es m).at (misfit_from name st.seen es m).position st (filled_all name es) ≡ behind_faults (entries_fault name st es) (ended (state_after st (filled_all name es)))
+pub leniently : (name : List ℕ) (st : State) (es : List Entry) → lenient_from name (misfit_from name st.seen es None) st (filled_all name es) ≡ behind_faults (entries_fault name st es) (ended (state_after st (filled_all name es)))
 unfolding lenient_from entries_fault filled_all misfit_from state_after next
-leniently name st [] m z = refl
-leniently name st (e ∷ es) m z =
-    turn name st e es m _ (entries_fault name (next st (filled name e)) es) (ended (state_after (next st (filled name e)) (filled_all name es))) (slot_fault e.slot (filled name e)) z refl
-    (λ i. ap (λ (o : Outcome). lenient_from name (misfit_from name (st.seen + 1) es (or_misfit m (st.seen + 1) o)).at (misfit_from name (st.seen + 1) es (or_misfit m (st.seen + 1) o)).position (next st (filled name e)) (filled_all name es)) i ∙ leniently name (next st (filled name e)) es m z)
+leniently name st [] = refl
+leniently name st (e ∷ es) =
+    turn name st e es _ (entries_fault name (next st (filled name e)) es) (ended (state_after (next st (filled name e)) (filled_all name es))) (slot_fault e.slot (filled name e)) refl
+    (λ i. ap (λ (o : Outcome). lenient_from name (misfit_from name (st.seen + 1) es (or_misfit None (st.seen + 1) o)) (next st (filled name e)) (filled_all name es)) i ∙ leniently name (next st (filled name e)) es)

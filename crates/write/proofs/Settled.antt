@@ -1,4 +1,5 @@
 -- What becomes of records that were put together: the refusal of the first fault, 23, or the flow in the room.
+use Rattle.std.specs.Prelude.{Option}
 use Prim.Native.Nat.{ℕ, ◌+◌, ◌≤◌}
 use mathlib.Core.Path.{◌≡◌, ap, ◌∙◌}
 use mathlib.Core.Bool.{Bool, true, false}
@@ -14,8 +15,8 @@ use Rattle.rebalance.specs.Rebalance.{rebalanced, all_fit, flat}
 use Rattle.rebalance.proofs.Judged.{length-mended}
 use Rattle.lenient.specs.Answers.{Lenient}
 use Rattle.lenient.specs.Answers as Kept
+use Rattle.lenient.specs.declared.Misfit.{Misfit}
 use Rattle.lenient.specs.Lenient.{lenient_from}
-use Rattle.sheet.specs.declared.Misfit.{Misfit}
 use Rattle.write.specs.Answers.{Written, Refused}
 use Rattle.write.specs.Settling.{settled_of}
 
@@ -26,7 +27,7 @@ put_front bs r l h e =
     let z : 0 + length bs ≡ length bs = omega arith in
     e ∙ ((part-written 0 bs r (part-fits 0 (length bs) (length r) (omega arith))).1 ∙ ap (λ (n : ℕ). bs ++ drop n r) z)
 
-module _ (flow : List ℕ) (m : Misfit) (x : Lenient) (told : x ≡ lenient_from (head_name_of flow) m.at m.position start_state (records_of flow)) where
+module _ (flow : List ℕ) (m : Option Misfit) (x : Lenient) (told : x ≡ lenient_from (head_name_of flow) m start_state (records_of flow)) where
   -- A fault is told.
   pub settled-refused : (n r p : ℕ) → x ≡ Kept.Refused n r p → Refused n r p ≡ settled_of flow m
   unfolding settled_of

@@ -1,5 +1,5 @@
 -- What the walk over a sheet tells: that it is none, how many records are to be written, and the flow that they make.
-use Rattle.std.specs.Prelude.{Err}
+use Rattle.std.specs.Prelude.{Err, Option}
 use Prim.Native.Nat.{ℕ, ◌+◌, ◌*◌, ◌/◌, ◌≤◌, ◌<◌}
 use mathlib.Core.Path.{◌≡◌, refl, sym, ap, subst, ◌∙◌}
 use mathlib.Core.List.{List}
@@ -14,8 +14,8 @@ use Rattle.rebalance.specs.Rebalance.{rebalanced, flat}
 use Rattle.rebalance.proofs.Flat.{length-flat, records-flat}
 use Rattle.lenient.specs.Answers.{Lenient}
 use Rattle.lenient.specs.Answers as Kept
+use Rattle.lenient.specs.declared.Misfit.{Misfit}
 use Rattle.lenient.specs.Lenient.{ended, lenient_from}
-use Rattle.sheet.specs.declared.Misfit.{Misfit}
 use Rattle.sheet.specs.declared.Spot.{Spot}
 use Rattle.sheet.specs.Answers.{Walked}
 use Rattle.sheet.specs.Answers as Way
@@ -148,9 +148,9 @@ module _ (sheet room f g : List ℕ) (b : Spot) (t : Told sheet f g b) where
           go (Err why) p = refl
 
       -- so that the lenient judgement gives their first fault.
-      judged-leniently : (m : Misfit) → m ≡ misfit_from name 0 es start_spot.misfit → lenient_from name m.at m.position start_state rs ≡ entries_fault name start_state es
+      judged-leniently : (m : Option Misfit) → m ≡ misfit_from name 0 es start_spot.misfit → lenient_from name m start_state rs ≡ entries_fault name start_state es
       unfolding start_state
-      judged-leniently m e = ap (λ (k : Misfit). lenient_from name k.at k.position start_state rs) e ∙ (leniently name start_state es start_spot.misfit refl ∙ ends)
+      judged-leniently m e = ap (λ (k : Option Misfit). lenient_from name k start_state rs) e ∙ (leniently name start_state es ∙ ends)
 
       -- What becomes of the flow that was put together is the answer,
       pub told-settled : settled_of flow b.misfit ≡ writing_of sheet room

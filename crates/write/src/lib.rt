@@ -10,16 +10,16 @@ ghost use Rattle.write.specs.Writing.{writing_of, room_after, room_with};
 ghost use Rattle.write.specs.Settling.{settled_of};
 
 use layout::Flow;
+use lenient::Misfit;
 use refusal::Refusal;
-use sheet::Misfit;
 
 // Judges the records that were put together and, where nothing speaks against it, works out what is stored and copies the flow into the room.
-fn settle(flow: &mut [u8], misfit: Misfit, room: &mut [u8]) -> Result<usize, Refusal>
+fn settle(flow: &mut [u8], misfit: Option<Misfit>, room: &mut [u8]) -> Result<usize, Refusal>
     requires { Whole flow.old × (length flow.old ≤ length room.old) }
     ensures { (result ≡ settled_of flow.old misfit)
         × (room.new ≡ room_with result (flat (rebalanced start_state (records_of flow.old))) room.old) }
 {
-    lenient::judge_kept(flow, misfit.at, misfit.position)?;
+    lenient::judge_kept(flow, misfit)?;
     if rebalance::survey(flow).fits {
         rebalance::rebalance(flow);
         text::put_part(room, 0, flow);

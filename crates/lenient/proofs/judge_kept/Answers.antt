@@ -25,7 +25,7 @@ turn c =
 
 pub loop-rec-init : goal.loop-rec-init
 unfolding start_state
-loop-rec-init c = rw c.start-st.ensures record { judging = judging-start _ _ _; chunked = chunked-start _ _ _ c.into_iter-rec-iterator.ensures.into_iter_gives c.chunks_exact-rec-items.ensures.rest c.chunks_exact-rec-items.ensures.size }
+loop-rec-init c = rw c.start-st.ensures record { judging = judging-start _ _; chunked = chunked-start _ _ _ c.into_iter-rec-iterator.ensures.into_iter_gives c.chunks_exact-rec-items.ensures.rest c.chunks_exact-rec-items.ensures.size }
 
 pub record_fault-requires : goal.record_fault-requires
 record_fault-requires c =
@@ -40,7 +40,7 @@ pub returns-in-Err : goal.returns-in-Err
 returns-in-Err c =
     let q = (goal.at.returns-in-Err c).After-kind_in-kind in
     let g = given q in
-    ap Err c.in_record.ensures ∙ judging-refuses _ _ _ _ q.loop-rec.invariant.judging g.more _ g.here (sym (c.record_fault.ensures ∙ fault-by _ _ _ _ _ _ c.kind_in-kind.ensures) ∙ c.in-Err.is)
+    ap Err c.in_record.ensures ∙ judging-refuses _ _ _ q.loop-rec.invariant.judging g.more _ g.here (sym (c.record_fault.ensures ∙ fault-by _ _ _ _ _ c.kind_in-kind.ensures) ∙ c.in-Err.is)
 
 pub next_state-st-requires : goal.next_state-st-requires
 next_state-st-requires c =
@@ -53,10 +53,10 @@ loop-rec-preserved c =
     let q = (goal.at.loop-rec-preserved c).After-kind_in-kind in
     let g = given q in
     let e : c.next_state-st.result ≡ next q.loop-rec.st q.in-Some.rec.now = c.next_state-st.ensures ∙ next-by _ _ _ _ c.kind_in-kind.ensures c.line_sums.ensures in
-    rw e record { judging = judging-on _ _ _ _ q.loop-rec.invariant.judging g.more _ g.here (turn q) (sym (c.record_fault.ensures ∙ fault-by _ _ _ _ _ _ c.kind_in-kind.ensures) ∙ c.in_default.is); chunked = g.on }
+    rw e record { judging = judging-on _ _ _ q.loop-rec.invariant.judging g.more _ g.here (turn q) (sym (c.record_fault.ensures ∙ fault-by _ _ _ _ _ c.kind_in-kind.ensures) ∙ c.in_default.is); chunked = g.on }
 
 pub ended-requires : goal.ended-requires
 ended-requires c = let a = c.loop-rec.invariant.judging.ahead in omega (arith, c.requires.short)
 
 pub returns : goal.returns
-returns c = c.ended.ensures ∙ judging-end _ _ _ _ c.loop-rec.invariant.judging (chunk-none _ _ _ _ c.loop-rec.invariant.chunked _ c.next.ensures.steps c.in-None.is)
+returns c = c.ended.ensures ∙ judging-end _ _ _ c.loop-rec.invariant.judging (chunk-none _ _ _ _ c.loop-rec.invariant.chunked _ c.next.ensures.steps c.in-None.is)

@@ -5,4 +5,4 @@ use Rattle.lenient.proofs.Judging.{Judging}
 use Rattle.lenient.proofs.judge_kept.Given as goal
 
 abbrev pub invariant-loop-rec : goal.invariant-loop-rec
-invariant-loop-rec l = record { judging : Judging l.flow l.misfit l.position l.st; chunked : Chunked l.flow l.st.seen l.rec-iterator }
+invariant-loop-rec l = record { judging : Judging l.flow l.misfit l.st; chunked : Chunked l.flow l.st.seen l.rec-iterator }
