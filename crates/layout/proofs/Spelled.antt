@@ -1,5 +1,5 @@
 -- What the characters of a type name: types by the word of their two characters.
-use Prim.Native.Nat.{ℕ, ◌+◌, ◌*◌, ◌/◌, ◌%◌, ◌<◌}
+use Prim.Native.Nat.{ℕ, ◌+◌, ◌*◌, ◌/◌, ◌%◌, ◌≤◌, ◌<◌}
 use mathlib.Core.Path.{◌≡◌, refl}
 use mathlib.Core.Bool.{Bool, true, false, cond, false≢true}
 use mathlib.Core.List.{List, [], ◌∷◌}
@@ -73,3 +73,7 @@ zero-behind r = go (same a b 70 52) (same a b 49 48) (same a b 50 48) (same a b 
     go false false false false true x i j k l h = second-same a b 53 48 l
     go false false false false false true i j k l h = absurd (false≢true h)
     go false false false false false false i j k l h = absurd (false≢true h)
+
+-- a number from k on that is none of the first four from k is beyond them
+pub four-on : (k b : ℕ) → k ≤ b → (b ≡ k → ⊥) → (b ≡ k + 1 → ⊥) → (b ≡ k + 2 → ⊥) → (b ≡ k + 3 → ⊥) → k + 4 ≤ b
+four-on k b h d e f g = omega arith
