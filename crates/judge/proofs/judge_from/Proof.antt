@@ -9,8 +9,7 @@ use Rattle.judge.specs.declared.Judgement.{Judgement}
 use Rattle.judge.specs.Flow.{refused_with, after, judged_from, rest_of, Ready}
 use Rattle.state.specs.Numbers.{kept_after}
 use Rattle.judge.specs.Run.{Run, ran}
-use Rattle.records.specs.Reading.{Clean, Values, values_read}
-use Rattle.std.specs.Prelude.{Ok, Err}
+use Rattle.records.specs.Reading.{Clean, values_read}
 use Rattle.rules.proofs.Growth.{step_room, deleghe-on}
 use Rattle.rules.specs.Values.{values_in, values_on}
 use Rattle.rules.specs.Step.{next_deleghe, next_of}
