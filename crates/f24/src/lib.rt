@@ -23,6 +23,7 @@ ghost use Rattle.f24.specs.Linked.{portion_code, portion_state, portion_room};
 const NO_ROOM: u64 = 100;
 
 // How many numbers each answer needs room for.
+// Kept: equal numbers, and each is a constant of its own in the C interface (`F24_FIND_ROOM`, `F24_WRITE_ROOM`, ..).
 const JUDGE_ROOM: usize = 14;
 
 const DELEGA_ROOM: usize = 14;
