@@ -1,5 +1,6 @@
 -- Believed. The numbers in which the linkable library writes its answers, and those that a judgement by portions returns.
-use Rattle.std.specs.Prelude.{ℕ, List, [], ◌∷◌}
+use Rattle.std.specs.Prelude.{ℕ, List, [], ◌∷◌, Result, Ok, Err}
+use Rattle.refusal.specs.declared.Refusal.{Refusal}
 use Rattle.state.specs.Numbers.{overlay, sums_numbers}
 use Rattle.judge.specs.declared.Summary.{Summary}
 use Rattle.portion.specs.declared.Course.{Course}
@@ -19,6 +20,16 @@ delega_numbers a = a.balance ∷ a.lines ∷ a.set ∷ a.size ∷ sums_numbers a
 -- A refusal is written as the record and the position.
 abbrev pub refusal_numbers : ℕ → ℕ → List ℕ
 refusal_numbers r p = r ∷ p ∷ []
+
+-- A call that answers a number returns 0, and one that is refused the number of the refusal.
+abbrev pub answer_code : Result ℕ Refusal → ℕ
+answer_code (Ok n) = 0
+answer_code (Err why) = why.number
+
+-- It writes the number that it answers, or the refusal.
+abbrev pub number_or_refusal : Result ℕ Refusal → List ℕ
+number_or_refusal (Ok n) = n ∷ []
+number_or_refusal (Err why) = refusal_numbers why.«record» why.position
 
 -- A judgement that has not ended returns 101, and a foreign state 102.
 abbrev pub course_code : Course → ℕ

@@ -3,24 +3,42 @@
 
 ghost use Rattle.std.specs.Prelude.{◌≡◌, ◌≤◌, ◌∷◌, ◌++◌, length};
 ghost use Rattle.state.specs.Numbers.{overlay, sums_numbers};
-ghost use Rattle.answers.specs.Numbers.{summary_numbers, delega_numbers, refusal_numbers, course_code, portion_numbers, handed_back};
+ghost use Rattle.answers.specs.Numbers.{summary_numbers, delega_numbers, refusal_numbers, answer_code, number_or_refusal, course_code, portion_numbers, handed_back};
 
 use amounts::Sums;
 use delega::DelegaAnswer;
 use judge::Summary;
 use portion::{Course, Portion};
+use refusal::Refusal;
 
 // What is returned where a judgement has not ended, and for a state that no judgement of the flow can have handed back.
 const NOT_ENDED: u64 = 101;
 
 const FOREIGN: u64 = 102;
 
-// Writes the record and the position of a refusal.
-pub fn put_refusal(room: &mut [u64], at: usize, position: usize)
+// Writes the record and the position of a refusal, and returns its number.
+pub fn put_refusal(room: &mut [u64], why: Refusal) -> u64
     requires { 2 ≤ length room.old }
-    ensures { room.new ≡ overlay (refusal_numbers at position) room.old }
+    ensures number { result ≡ why.number }
+    ensures room { room.new ≡ overlay (refusal_numbers why.«record» why.position) room.old }
 {
-    state::put(room, &[at as u64, position as u64]);
+    state::put(room, &[why.record as u64, why.position as u64]);
+    why.number
+}
+
+// Writes the number that a call answers, or its refusal, and returns 0 or the number of the refusal.
+pub fn put_number(room: &mut [u64], answer: Result<usize, Refusal>) -> u64
+    requires { 2 ≤ length room.old }
+    ensures code { result ≡ answer_code answer }
+    ensures room { room.new ≡ overlay (number_or_refusal answer) room.old }
+{
+    match answer {
+        Ok(n) => {
+            state::put(room, &[n as u64]);
+            0
+        }
+        Err(why) => put_refusal(room, why),
+    }
 }
 
 // The ten sums of five sections, as they are written.

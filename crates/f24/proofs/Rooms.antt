@@ -1,14 +1,16 @@
 -- What is returned and what stands in a room, by its length.
+use Rattle.std.specs.Prelude.{Result, Ok, Err}
 use Prim.Native.Nat.{ℕ, ◌<◌, ◌≤◌}
 use mathlib.Core.Path.{◌≡◌, refl}
-use mathlib.Core.List.{List, []}
+use mathlib.Core.List.{List, [], ◌∷◌}
 use borrow.Author.Tests.{lt-ltb, le-ltb, ne_eqb}
 use native.Mathlib.Omega.{arith}
 use lib.ListN.{length}
 use Rattle.state.specs.Numbers.{overlay}
 use Rattle.judge.specs.Refusal.{Verdict, Accepted, refusal_of}
+use Rattle.refusal.specs.declared.Refusal.{Refusal}
 use Rattle.refusal.specs.Refusals.{refusal, no_refusal}
-use Rattle.answers.specs.Numbers.{refusal_numbers}
+use Rattle.answers.specs.Numbers.{refusal_numbers, answer_code, number_or_refusal}
 use Rattle.f24.specs.Linked.{code_or, room_or, answer_numbers}
 
 -- Nothing laid over a room leaves it as it came.
@@ -50,3 +52,11 @@ module _ {n : ℕ} (room : List ℕ) where
   pub refused-room : (xs : List ℕ) (m r p : ℕ) {l : List ℕ} → 1 ≤ m → n ≤ length room → l ≡ overlay (refusal_numbers r p) room → l ≡ room_or n room (answer_numbers (refusal m r p) xs)
   unfolding answer_numbers
   refused-room xs m r p z h e = long-room _ h (rw (ne_eqb m 0 (λ q. omega arith)) e)
+
+-- What a call that answers a number returns and leaves, where x is the refusal of its answer and own what that writes itself.
+pub number-answered : {n : ℕ} (room : List ℕ) (x : Result ℕ Refusal → Refusal) (own : Result ℕ Refusal → List ℕ) →
+    ((k : ℕ) → (x (Ok k) ≡ no_refusal) × (own (Ok k) ≡ k ∷ [])) → ((why : Refusal) → x (Err why) ≡ why) →
+    (a : Result ℕ Refusal) → ((why : Refusal) → a ≡ Err why → 1 ≤ why.number) → n ≤ length room →
+    {c : ℕ} {l : List ℕ} → c ≡ answer_code a → l ≡ overlay (number_or_refusal a) room → (c ≡ code_or n room (x a).number) × (l ≡ room_or n room (answer_numbers (x a) (own a)))
+number-answered room x own done refused (Ok k) positive h p q = (long-code room h (rw ((done k).0) p), rw ((done k).0, (done k).1) (answer-room room _ h q))
+number-answered room x own done refused (Err why) positive h p q = (long-code room h (rw (refused why) p), rw (refused why) (refused-room room _ _ _ _ (positive why refl) h q))

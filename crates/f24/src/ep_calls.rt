@@ -17,13 +17,9 @@ pub fn f24_ep_judge(records: &[u8], answer: &mut [u64]) -> u64
     }
     match ep::ep_judge(records) {
         Ok(payments) => {
-            let numbers = [payments.count, payments.sum];
-            state::put(answer, &numbers);
+            state::put(answer, &[payments.count, payments.sum]);
             0
         }
-        Err(why) => {
-            answers::put_refusal(answer, why.record, why.position);
-            why.number
-        }
+        Err(why) => answers::put_refusal(answer, why),
     }
 }

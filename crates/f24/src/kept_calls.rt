@@ -20,21 +20,14 @@ pub fn f24_kept(flow: &[u8], kept: &mut [u64], answer: &mut [u64]) -> u64
         × (kept.new ≡ kept_record flow.now kept.old answer.old)
         × (answer.new ≡ kept_answer flow.now kept.old answer.old) }
 {
-    if kept.len() < SUMS_ROOM {
-        return NO_ROOM;
-    }
-    if answer.len() < ANSWER_ROOM {
+    if kept.len() < SUMS_ROOM || answer.len() < ANSWER_ROOM {
         return NO_ROOM;
     }
     let made = kept::keep(flow);
-    let verdict = made.verdict;
-    if let Err(why) = verdict {
-        answers::put_refusal(answer, why.record, why.position);
-        return why.number;
+    if let Err(why) = made.verdict {
+        return answers::put_refusal(answer, why);
     }
-    let fresh = made.kept;
-    let totals = fresh.sums;
-    answers::put_sums(kept, totals);
+    answers::put_sums(kept, made.kept.sums);
     0
 }
 
@@ -54,26 +47,17 @@ pub fn f24_correct_kept(
         × (kept.new ≡ correct_kept_record flow.old delega subtype nth debit credit kept.old answer.old)
         × (answer.new ≡ correct_kept_answer flow.old delega subtype nth debit credit kept.old answer.old) }
 {
-    if kept.len() < SUMS_ROOM {
-        return NO_ROOM;
-    }
-    if answer.len() < ANSWER_ROOM {
+    if kept.len() < SUMS_ROOM || answer.len() < ANSWER_ROOM {
         return NO_ROOM;
     }
     let sums = state::sums_at(kept, 0);
     let done = kept::correct_kept(flow, delega, subtype, nth, debit, credit, KeptSums { sums });
-    let fresh = done.kept;
-    let totals = fresh.sums;
-    let told = done.answer;
-    match told {
+    match done.answer {
         Ok(()) => {
-            answers::put_sums(kept, totals);
+            answers::put_sums(kept, done.kept.sums);
             0
         }
-        Err(why) => {
-            answers::put_refusal(answer, why.record, why.position);
-            why.number
-        }
+        Err(why) => answers::put_refusal(answer, why),
     }
 }
 
@@ -90,28 +74,18 @@ pub fn f24_rebalance_kept(
         × (kept.new ≡ rebalance_kept_record flow.old changed.old kept.old answer.old)
         × (answer.new ≡ rebalance_kept_answer flow.old changed.old kept.old answer.old) }
 {
-    if kept.len() < SUMS_ROOM {
-        return NO_ROOM;
-    }
-    if answer.len() < ANSWER_ROOM {
+    if kept.len() < SUMS_ROOM || answer.len() < ANSWER_ROOM {
         return NO_ROOM;
     }
     let sums = state::sums_at(kept, 0);
     let done = kept::rebalance_kept(flow, changed, KeptSums { sums });
-    let fresh = done.kept;
-    let totals = fresh.sums;
-    let told = done.answer;
-    match told {
+    match done.answer {
         Ok(count) => {
-            answers::put_sums(kept, totals);
-            let numbers = [count as u64];
-            state::put(answer, &numbers);
+            answers::put_sums(kept, done.kept.sums);
+            state::put(answer, &[count as u64]);
             0
         }
-        Err(why) => {
-            answers::put_refusal(answer, why.record, why.position);
-            why.number
-        }
+        Err(why) => answers::put_refusal(answer, why),
     }
 }
 
@@ -122,27 +96,17 @@ pub fn f24_drop_kept(flow: &mut [u8], numbers: &[u64], kept: &mut [u64], answer:
         × (kept.new ≡ drop_kept_record flow.old numbers.now kept.old answer.old)
         × (answer.new ≡ drop_kept_answer flow.old numbers.now kept.old answer.old) }
 {
-    if kept.len() < SUMS_ROOM {
-        return NO_ROOM;
-    }
-    if answer.len() < ANSWER_ROOM {
+    if kept.len() < SUMS_ROOM || answer.len() < ANSWER_ROOM {
         return NO_ROOM;
     }
     let sums = state::sums_at(kept, 0);
     let done = kept::drop_kept(flow, numbers, KeptSums { sums });
-    let fresh = done.kept;
-    let totals = fresh.sums;
-    let told = done.answer;
-    match told {
+    match done.answer {
         Ok(length) => {
-            answers::put_sums(kept, totals);
-            let new_length = [length as u64];
-            state::put(answer, &new_length);
+            answers::put_sums(kept, done.kept.sums);
+            state::put(answer, &[length as u64]);
             0
         }
-        Err(why) => {
-            answers::put_refusal(answer, why.record, why.position);
-            why.number
-        }
+        Err(why) => answers::put_refusal(answer, why),
     }
 }

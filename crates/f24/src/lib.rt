@@ -23,6 +23,7 @@ ghost use Rattle.f24.specs.Linked.{portion_code, portion_state, portion_room};
 const NO_ROOM: u64 = 100;
 
 // How many numbers each answer needs room for.
+// Kept: equal numbers, and each is a constant of its own in the C interface (`F24_FIND_ROOM`, `F24_WRITE_ROOM`, ..).
 const JUDGE_ROOM: usize = 14;
 
 const DELEGA_ROOM: usize = 14;
@@ -51,13 +52,10 @@ pub fn f24_judge(flow: &[u8], answer: &mut [u64]) -> u64
         return NO_ROOM;
     }
     let judgement = judge::judge(flow);
-    let verdict = judgement.verdict;
-    if let Err(why) = verdict {
-        answers::put_refusal(answer, why.record, why.position);
-        return why.number;
+    if let Err(why) = judgement.verdict {
+        return answers::put_refusal(answer, why);
     }
-    let numbers = answers::summary_numbers(judgement.summary);
-    state::put(answer, &numbers);
+    state::put(answer, &answers::summary_numbers(judgement.summary));
     0
 }
 
@@ -70,13 +68,10 @@ pub fn f24_delega(flow: &[u8], number: u64, answer: &mut [u64]) -> u64
         return NO_ROOM;
     }
     let one = delega::delega(flow, number);
-    let verdict = one.verdict;
-    if let Err(why) = verdict {
-        answers::put_refusal(answer, why.record, why.position);
-        return why.number;
+    if let Err(why) = one.verdict {
+        return answers::put_refusal(answer, why);
     }
-    let numbers = answers::delega_numbers(one);
-    state::put(answer, &numbers);
+    state::put(answer, &answers::delega_numbers(one));
     0
 }
 
@@ -88,17 +83,7 @@ pub fn f24_find(flow: &[u8], delega: u64, subtype: u64, nth: u64, answer: &mut [
     if answer.len() < FIND_ROOM {
         return NO_ROOM;
     }
-    match find::find(flow, delega, subtype, nth) {
-        Ok(k) => {
-            let numbers = [k as u64];
-            state::put(answer, &numbers);
-            0
-        }
-        Err(why) => {
-            answers::put_refusal(answer, why.record, why.position);
-            why.number
-        }
-    }
+    answers::put_number(answer, find::find(flow, delega, subtype, nth))
 }
 
 // Gives one line of a flow a new debit and credit. Nothing is written to the room where that is done.
@@ -120,10 +105,7 @@ pub fn f24_correct(
     }
     match correct::correct(flow, delega, subtype, nth, debit, credit) {
         Ok(()) => 0,
-        Err(why) => {
-            answers::put_refusal(answer, why.record, why.position);
-            why.number
-        }
+        Err(why) => answers::put_refusal(answer, why),
     }
 }
 
@@ -136,17 +118,7 @@ pub fn f24_write(sheet: &[u8], room: &mut [u8], answer: &mut [u64]) -> u64
     if answer.len() < WRITE_ROOM {
         return NO_ROOM;
     }
-    match write::write(sheet, room) {
-        Ok(length) => {
-            let numbers = [length as u64];
-            state::put(answer, &numbers);
-            0
-        }
-        Err(why) => {
-            answers::put_refusal(answer, why.record, why.position);
-            why.number
-        }
-    }
+    answers::put_number(answer, write::write(sheet, room))
 }
 
 // Rebalances a flow, and lists each field that changed by record and start, two numbers for each. The answer is how many these are.
@@ -159,17 +131,7 @@ pub fn f24_rebalance(flow: &mut [u8], changed: &mut [u64], answer: &mut [u64]) -
     if answer.len() < REBALANCE_ROOM {
         return NO_ROOM;
     }
-    match mend::mend(flow, changed) {
-        Ok(count) => {
-            let numbers = [count as u64];
-            state::put(answer, &numbers);
-            0
-        }
-        Err(why) => {
-            answers::put_refusal(answer, why.record, why.position);
-            why.number
-        }
-    }
+    answers::put_number(answer, mend::mend(flow, changed))
 }
 
 // Drops the deleghe with these numbers from a flow. The answer is the new length of the flow; spaces stand behind it.
@@ -181,17 +143,7 @@ pub fn f24_drop(flow: &mut [u8], numbers: &[u64], answer: &mut [u64]) -> u64
     if answer.len() < DROP_ROOM {
         return NO_ROOM;
     }
-    match dropping::drop_deleghe(flow, numbers) {
-        Ok(length) => {
-            let new_length = [length as u64];
-            state::put(answer, &new_length);
-            0
-        }
-        Err(why) => {
-            answers::put_refusal(answer, why.record, why.position);
-            why.number
-        }
-    }
+    answers::put_number(answer, dropping::drop_deleghe(flow, numbers))
 }
 
 // The state from which a judgement by portions starts.
@@ -202,8 +154,7 @@ pub fn f24_start(state: &mut [u64]) -> u64
     if state.len() < STATE_ROOM {
         return NO_ROOM;
     }
-    let numbers = handed::progress_numbers(portion::start());
-    state::put(state, &numbers);
+    state::put(state, &handed::progress_numbers(portion::start()));
     0
 }
 
@@ -214,16 +165,11 @@ pub fn f24_judge_portion(flow: &[u8], portion: u64, state: &mut [u64], answer: &
         × (state.new ≡ portion_state flow.now portion state.old answer.old)
         × (answer.new ≡ portion_room flow.now portion state.old answer.old) }
 {
-    if state.len() < STATE_ROOM {
+    if state.len() < STATE_ROOM || answer.len() < PORTION_ROOM {
         return NO_ROOM;
     }
-    if answer.len() < PORTION_ROOM {
-        return NO_ROOM;
-    }
-    let from = handed::progress_in(state);
-    let part = portion::judge_portion(flow, portion as usize, from);
+    let part = portion::judge_portion(flow, portion as usize, handed::progress_in(state));
     answers::hand_back(state, part);
     answers::put_portion(answer, part);
-    let course = part.answer;
-    answers::course_code(course)
+    answers::course_code(part.answer)
 }

@@ -1,7 +1,7 @@
 // The calls that take the record of ten sums kept beside a flow, and hand back the one that stands for the flow as it is then.
 #![tactic(auto)]
 
-ghost use Rattle.std.specs.Prelude.{◌≡◌};
+ghost use Rattle.std.specs.Prelude.{◌≡◌, Err};
 ghost use Rattle.kept.specs.Keeping.{keeping, correction_kept, corrected_with, mending_kept, mended_with, listed_with, dropping_kept, dropped_with};
 ghost use Rattle.kept.specs.Inner.{or_foreign};
 
@@ -46,6 +46,16 @@ fn or_foreign(own: Result<(), Refusal>) -> Refusal
     }
 }
 
+// The answer to such a call, and the record as it came.
+fn unmatched<T>(own: Result<(), Refusal>, kept: KeptSums) -> WithSums<T>
+    ensures { result ≡ record { answer = Err (or_foreign own); kept = kept } }
+{
+    WithSums {
+        answer: Err(or_foreign(own)),
+        kept,
+    }
+}
+
 // Corrects one line of a flow for whose lines the record stands. The flow is judged by the plain call, and by itself only where the record does not stand for it.
 pub fn correct_kept(
     flow: &mut [u8],
@@ -60,21 +70,14 @@ pub fn correct_kept(
         × (flow.new ≡ corrected_with kept flow.old delega subtype nth debit credit) }
 {
     if !sums::matches(kept, flow) {
-        let own = or_foreign(judge::judge(flow).verdict);
-        return WithSums {
-            answer: Err(own),
-            kept,
-        };
+        return unmatched(judge::judge(flow).verdict, kept);
     }
     let answer = correct::correct(flow, delega, subtype, nth, debit, credit);
-    if let Ok(()) = answer {
-        let fresh = sums::of_lines(flow);
-        return WithSums {
-            answer,
-            kept: fresh,
-        };
-    }
-    WithSums { answer, kept }
+    let left = match answer {
+        Ok(()) => sums::of_lines(flow),
+        Err(_) => kept,
+    };
+    WithSums { answer, kept: left }
 }
 
 // Rebalances a flow for whose lines the record stands. No line changes, and so the record stands for the flow afterwards.
@@ -84,11 +87,7 @@ pub fn rebalance_kept(flow: &mut [u8], list: &mut [u64], kept: KeptSums) -> With
         × (list.new ≡ listed_with kept flow.old list.old) }
 {
     if !sums::matches(kept, flow) {
-        let own = or_foreign(mend::first_remaining(flow));
-        return WithSums {
-            answer: Err(own),
-            kept,
-        };
+        return unmatched(mend::first_remaining(flow), kept);
     }
     let answer = mend::mend(flow, list);
     WithSums { answer, kept }
@@ -100,16 +99,12 @@ pub fn drop_kept(flow: &mut [u8], numbers: &[u64], kept: KeptSums) -> WithSums<u
         × (flow.new ≡ dropped_with kept flow.old numbers.now) }
 {
     if !sums::matches(kept, flow) {
-        let own = or_foreign(judge::judge(flow).verdict);
-        return WithSums {
-            answer: Err(own),
-            kept,
-        };
+        return unmatched(judge::judge(flow).verdict, kept);
     }
     let answer = dropping::drop_deleghe(flow, numbers);
-    if let Ok(length) = answer {
-        let left = sums::of_lines(&flow[..length]);
-        return WithSums { answer, kept: left };
-    }
-    WithSums { answer, kept }
+    let left = match answer {
+        Ok(length) => sums::of_lines(&flow[..length]),
+        Err(_) => kept,
+    };
+    WithSums { answer, kept: left }
 }

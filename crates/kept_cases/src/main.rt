@@ -75,17 +75,11 @@ fn print_keeping(rt: &HostRuntime, made: Keeping) {
     }
 }
 
-// The answer of a correction; false where it is a refusal.
-fn print_correction(rt: &HostRuntime, answer: Result<(), Refusal>) -> bool {
+// The answer of a correction.
+fn print_correction(rt: &HostRuntime, answer: Result<(), Refusal>) {
     match answer {
-        Ok(()) => {
-            desk::print_bytes(rt, b"MADE\n");
-            true
-        }
-        Err(why) => {
-            desk::print_refusal(rt, why);
-            false
-        }
+        Ok(()) => desk::print_bytes(rt, b"MADE\n"),
+        Err(why) => desk::print_refusal(rt, why),
     }
 }
 
@@ -93,7 +87,6 @@ fn print_correction(rt: &HostRuntime, answer: Result<(), Refusal>) -> bool {
 fn correct_line(rt: &HostRuntime, flow: &mut [u8], call: Numbers, kept: KeptSums) -> Left
     ensures { result.length ≤ length flow.old }
 {
-    let n = flow.len();
     let made = kept::correct_kept(
         flow,
         call.first,
@@ -103,25 +96,22 @@ fn correct_line(rt: &HostRuntime, flow: &mut [u8], call: Numbers, kept: KeptSums
         call.fifth,
         kept,
     );
+    print_correction(rt, made.answer);
     Left {
-        done: print_correction(rt, made.answer),
-        length: n,
+        done: made.answer.is_ok(),
+        length: flow.len(),
         kept: made.kept,
     }
 }
 
-// The answer of a rebalancing and the fields that it lists; false where it is a refusal.
-fn print_mending(rt: &HostRuntime, answer: Result<usize, Refusal>, list: &[u64]) -> bool {
+// The answer of a rebalancing and the fields that it lists.
+fn print_mending(rt: &HostRuntime, answer: Result<usize, Refusal>, list: &[u64]) {
     match answer {
         Ok(count) => {
             desk::print_counted(rt, "REBALANCED", count);
             desk::print_changes(rt, list, count);
-            true
         }
-        Err(why) => {
-            desk::print_refusal(rt, why);
-            false
-        }
+        Err(why) => desk::print_refusal(rt, why),
     }
 }
 
@@ -129,11 +119,11 @@ fn print_mending(rt: &HostRuntime, answer: Result<usize, Refusal>, list: &[u64])
 fn rebalance_flow(rt: &HostRuntime, flow: &mut [u8], list: &mut [u64], kept: KeptSums) -> Left
     ensures { result.length ≤ length flow.old }
 {
-    let n = flow.len();
     let made = kept::rebalance_kept(flow, list, kept);
+    print_mending(rt, made.answer, list);
     Left {
-        done: print_mending(rt, made.answer, list),
-        length: n,
+        done: made.answer.is_ok(),
+        length: flow.len(),
         kept: made.kept,
     }
 }
@@ -156,6 +146,7 @@ fn drop_deleghe(rt: &HostRuntime, flow: &mut [u8], numbers: &[u64], kept: KeptSu
 {
     let n = flow.len();
     let made = kept::drop_kept(flow, numbers, kept);
+    // Kept: tried with one `Left` behind the match, and that the length of the two ways joined lies within the flow stayed open.
     match made.answer {
         Ok(length) => {
             desk::print_counted(rt, "DROPPED", length);

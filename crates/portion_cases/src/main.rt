@@ -33,7 +33,7 @@ fn print_answer(rt: &HostRuntime, returned: u64, answer: [u64; 15]) {
 // Makes one call, and prints its answer.
 fn call(rt: &HostRuntime, flow: &[u8], portion: u64, state: &mut [u64]) {
     let mut answer = [0u64; 15];
-    let returned = f24::f24_judge_portion(flow, portion, &mut *state, &mut answer);
+    let returned = f24::f24_judge_portion(flow, portion, state, &mut answer);
     print_answer(rt, returned, answer);
 }
 
@@ -46,7 +46,7 @@ fn make(rt: &HostRuntime, flow: &[u8], portions: Numbers, state: &mut [u64]) {
         portions.fourth,
         portions.fifth,
     ] {
-        call(rt, flow, portion, &mut *state);
+        call(rt, flow, portion, state);
     }
     desk::print_bytes(rt, b"STATE");
     print_numbers(rt, state);

@@ -23,4 +23,4 @@ unfolding correct_code correct_flow correct_room
 returns-in-Err c =
     let e = sym c.correct.ensures.0 ∙ c.in-Err.is in
     let h = c.if-answer-lt-CORRECT_ROOM.false in
-    (long-code _ h (rw e), rw (le-ltb _ _ h) c.correct.ensures.1, rw e (refused-room _ _ _ _ _ (correction-number _ _ _ _ _ _ e) h c.put_refusal.ensures))
+    (long-code _ h (rw e c.put_refusal.ensures.number), rw (le-ltb _ _ h) c.correct.ensures.1, rw e (refused-room _ _ _ _ _ (correction-number _ _ _ _ _ _ e) h c.put_refusal.ensures.room))

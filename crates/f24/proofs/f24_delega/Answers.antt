@@ -19,11 +19,11 @@ unfolding delega_code delega_room
 returns-in-Err c =
     let e = ap (λ (a : DelegaAnswer). a.verdict) (sym c.delega-one.ensures) ∙ c.in-Err.is in
     let h = c.if-answer-lt-DELEGA_ROOM.false in
-    (long-code _ h (rw e), rw e (refused-room _ _ _ _ _ (delega-number _ _ e) h c.put_refusal.ensures))
+    (long-code _ h (rw e c.put_refusal.ensures.number), rw e (refused-room _ _ _ _ _ (delega-number _ _ e) h c.put_refusal.ensures.room))
 
 pub returns : goal.returns
 unfolding delega_code delega_room
 returns c =
     let e = ap (λ (a : DelegaAnswer). a.verdict) (sym c.delega-one.ensures) ∙ c.in_default.is in
     let h = c.if-answer-lt-DELEGA_ROOM.false in
-    (long-code _ h (rw e), accepted-room _ _ _ e h (c.put.ensures ∙ ap (λ (xs : List ℕ). overlay xs c.args.answer.now) (c.delega_numbers-numbers.ensures ∙ ap delega_numbers c.delega-one.ensures)))
+    (long-code _ h (rw e), accepted-room _ _ _ e h (c.put.ensures ∙ ap (λ (xs : List ℕ). overlay xs c.args.answer.now) (c.delega_numbers.ensures ∙ ap delega_numbers c.delega-one.ensures)))

@@ -15,11 +15,11 @@ unfolding judge_code judge_room
 returns-in-Err c =
     let e = ap (λ (j : Judgement). j.verdict) (sym c.judge-judgement.ensures) ∙ c.in-Err.is in
     let h = c.if-answer-lt-JUDGE_ROOM.false in
-    (long-code _ h (rw e), rw e (refused-room _ _ _ _ _ (judgement-number _ e).0 h c.put_refusal.ensures))
+    (long-code _ h (rw e c.put_refusal.ensures.number), rw e (refused-room _ _ _ _ _ (judgement-number _ e).0 h c.put_refusal.ensures.room))
 
 pub returns : goal.returns
 unfolding judge_code judge_room
 returns c =
     let e = ap (λ (j : Judgement). j.verdict) (sym c.judge-judgement.ensures) ∙ c.in_default.is in
     let h = c.if-answer-lt-JUDGE_ROOM.false in
-    (long-code _ h (rw e), accepted-room _ _ _ e h (rw (← c.judge-judgement.ensures, ← c.summary_numbers-numbers.ensures) c.put.ensures))
+    (long-code _ h (rw e), accepted-room _ _ _ e h (rw (← c.judge-judgement.ensures, ← c.summary_numbers.ensures) c.put.ensures))

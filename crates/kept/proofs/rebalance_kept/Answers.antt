@@ -7,10 +7,7 @@ use Rattle.kept.proofs.Mended.{answer-none, answer-plain}
 use Rattle.kept.proofs.rebalance_kept.Goals as goal
 
 pub returns-then-not-matches : goal.returns-then-not-matches
-returns-then-not-matches c = answer-none _ _ _ (sym c.matches.ensures ∙ c.if-not-matches.true) _ (c.or_foreign-own.ensures ∙ (ap or_foreign c.first_remaining.ensures ∙ mismatch-lenient _))
+returns-then-not-matches c = rw c.unmatched.ensures (answer-none _ _ _ (sym c.matches.ensures ∙ c.if-not-matches.true) _ (ap or_foreign c.first_remaining.ensures ∙ mismatch-lenient _))
 
 pub returns : goal.returns
-returns c =
-    let k = c in
-    let e = k in
-    answer-plain _ _ _ (matched-stands _ _ (sym e.matches.ensures ∙ e.if-not-matches.false)).0 _ k.mend-answer.ensures.0 _ _ k.mend-answer.ensures.1 k.mend-answer.ensures.2
+returns c = answer-plain _ _ _ (matched-stands _ _ (sym c.matches.ensures ∙ c.if-not-matches.false)).0 _ c.mend-answer.ensures.0 _ _ c.mend-answer.ensures.1 c.mend-answer.ensures.2

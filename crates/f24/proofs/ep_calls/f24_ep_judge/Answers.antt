@@ -20,4 +20,4 @@ unfolding ep_code ep_room
 returns-in-Err c =
     let e = sym c.ep_judge.ensures ∙ c.in-Err.is in
     let h = c.if-answer-lt-EP_ROOM.false in
-    (long-code _ h (rw e), rw e (long-room _ _ h c.put_refusal.ensures))
+    (long-code _ h (rw e c.put_refusal.ensures.number), rw e (long-room _ _ h c.put_refusal.ensures.room))
