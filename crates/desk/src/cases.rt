@@ -7,12 +7,9 @@ ghost use Rattle.desk.specs.Marks.{marks};
 use crate::messages::fail;
 use crate::output::print_bytes;
 use crate::reading::{fill, opened};
-use crate::{CALL_HEADER, FIRST_MARK, Numbers};
+use crate::{CALL_HEADER, FIRST_MARK, MOST_CASES, Numbers};
 use std::fs::File;
 use std::io::Read;
-
-// No file of run cases has more.
-const MOST_CASES: usize = 10000;
 
 // Opens a file of run cases. Where it cannot be opened, one line on standard error says so, and there is none.
 pub fn open_cases(rt: &HostRuntime, path: &[u8]) -> Option<File> {
@@ -157,7 +154,7 @@ pub fn read_next<R: Read>(cases: &mut R, room: &mut [u8], n: usize) -> bool
 
 // The next run case of a file: its header is put in `head`, its name is printed, and its flow is put in `room`. Answers how many bytes the flow has; none where
 // there is no further case.
-fn next_case<R: Read>(
+pub fn next_case<R: Read>(
     rt: &HostRuntime,
     cases: &mut R,
     head: &mut [u8],

@@ -17,18 +17,19 @@ pub use answers::{
     print_payments, print_record, print_refusal,
 };
 pub use cases::{
-    mark, numbers_of, open_cases, print_comparison, put_numbers, read_full, read_next, run_cases,
+    mark, next_case, numbers_of, open_cases, print_comparison, put_numbers, read_full, read_next,
+    run_cases,
 };
 pub use output::print_bytes;
-pub use reading::{LONGEST_NAME, Source, count_words, path_at, text_of, word_at};
-pub use replacing::Target;
+pub use reading::{LONGEST_NAME, Source, count_words, number_at, path_at, text_of, word_at};
+pub use replacing::{Access, Old, Target};
 pub use saving::{create, create_beside, known_of, put_name, remove, rename, stored};
 
 // A command of the desk: its name, as the clerk types it, and the handle by which it runs.
 #[derive(Clone, Copy)]
 pub struct Command<'a> {
     pub rt: &'a HostRuntime,
-    pub name: &'a str,
+    pub name: &'a [u8],
 }
 
 // The five numbers of a run case's call.
@@ -40,6 +41,9 @@ pub struct Numbers {
     pub fourth: u64,
     pub fifth: u64,
 }
+
+// No file of run cases has more.
+pub const MOST_CASES: usize = 10000;
 
 // The header of a run case that has a name and a length, and of one that has the five numbers of a call between them.
 pub const FLOW_HEADER: usize = 48;

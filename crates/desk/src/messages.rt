@@ -42,36 +42,46 @@ fn end_line(rt: &HostRuntime, i: usize) {
 
 impl Command<'_> {
     // The start of a line on standard error: the command as a clerk types it.
-    fn begin_line(&self) {
-        let _ = eprint!(self.rt; "./f24 {}: ", self.name);
+    pub fn begin_line(&self) {
+        tell(self.rt, b"./f24 ");
+        tell(self.rt, self.name);
+        tell(self.rt, b": ");
     }
 
     // One line on standard error: what was wrong, and how the command is used.
-    pub fn misused(&self, what: &str, usage: &str) {
-        let name = self.name;
-        let _ = eprintln!(self.rt; "./f24 {name}: {what}; usage: ./f24 {name} {usage}");
+    pub fn misused(&self, what: &[u8], usage: &[u8]) {
+        self.begin_line();
+        tell(self.rt, what);
+        tell(self.rt, b"; usage: ./f24 ");
+        tell(self.rt, self.name);
+        tell(self.rt, b" ");
+        tell(self.rt, usage);
+        tell(self.rt, b"\n");
     }
 
-    // One line on standard error about the named file.
-    pub fn tell_of(&self, path: &[u8], what: &str) {
+    // One line on standard error about the named file; the words end it.
+    pub fn tell_of(&self, path: &[u8], what: &[u8]) {
         self.begin_line();
         tell(self.rt, path);
-        let _ = eprintln!(self.rt; "{what}");
+        tell(self.rt, what);
     }
 
     // One line on standard error where a flow could not be saved under the name, with the system's reason.
-    pub fn unsaved(&self, path: &[u8], what: &str, why: io::Error) {
+    pub fn unsaved(&self, path: &[u8], what: &[u8], why: io::Error) {
         self.begin_line();
         tell(self.rt, path);
-        fail(self.rt, what.as_bytes(), why);
+        fail(self.rt, what, why);
     }
 
     // One line on standard error where a file was replaced, and its owner or group could not be kept.
-    pub fn tell_yours(&self, path: &[u8], done: &str) {
+    pub fn tell_yours(&self, path: &[u8], done: &[u8]) {
         self.begin_line();
         tell(self.rt, path);
-        let _ = eprintln!(self.rt;
-            " is {done}, and is now yours: its owner or group could not be kept"
+        tell(self.rt, b" is ");
+        tell(self.rt, done);
+        tell(
+            self.rt,
+            b", and is now yours: its owner or group could not be kept\n",
         );
     }
 
@@ -83,14 +93,15 @@ impl Command<'_> {
     }
 
     // One line on standard error for an argument that is no number: its name, what a number is, and the word itself where it is short.
-    fn no_number(&self, name: &str, i: usize) {
+    pub fn no_number(&self, name: &[u8], i: usize) {
         self.begin_line();
-        let _ = eprint!(self.rt; "{name} must be a number in digits, at most {}", u64::MAX);
+        tell(self.rt, name);
+        let _ = eprint!(self.rt; " must be a number in digits, at most {}", u64::MAX);
         end_line(self.rt, i);
     }
 
     // The i-th argument as a number. Where it is none, one line on standard error says so, in which it goes by its name in the usage.
-    pub fn number_at(&self, name: &str, i: usize) -> Option<u64> {
+    pub fn number_at(&self, name: &[u8], i: usize) -> Option<u64> {
         let number = number_at(self.rt, i);
         if number.is_none() {
             self.no_number(name, i);

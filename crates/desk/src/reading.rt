@@ -119,7 +119,7 @@ impl Command<'_> {
 
     // Puts the word of the i-th argument into the room and answers its length; a word that is missing is -. None, with one line on standard error, where the room
     // is too short for the word, which then goes by its name in the usage.
-    pub fn name_at(&self, name: &str, i: usize, room: &mut [u8]) -> Option<usize>
+    pub fn name_at(&self, name: &[u8], i: usize, room: &mut [u8]) -> Option<usize>
         ensures { IfSome result (λ n. n ≤ length room.old) }
     {
         match self.rt.arg(i, room) {
@@ -129,7 +129,7 @@ impl Command<'_> {
                 Some(1)
             }
             Err(missing) => {
-                self.unread_word(name.as_bytes(), why_not(missing));
+                self.unread_word(name, why_not(missing));
                 None
             }
         }
@@ -165,7 +165,7 @@ impl Command<'_> {
     }
 
     // Reads what the i-th argument names; a word that is missing is standard input. None, with one line on standard error, where it cannot be read.
-    pub fn read_word(&self, name: &str, i: usize, room: &mut [u8]) -> Option<usize>
+    pub fn read_word(&self, name: &[u8], i: usize, room: &mut [u8]) -> Option<usize>
         ensures { IfSome result (λ n. n ≤ length room.old) }
     {
         let mut word = [0u8; LONGEST_NAME];
@@ -182,7 +182,7 @@ impl Command<'_> {
     {
         // Kept: no heap: the flow is read into a room of fixed length, and a slice of it goes on.
         let mut room = [0u8; Flow::MOST_BYTES + 1];
-        if let Some(n) = self.read_word("FILE", i, &mut room) {
+        if let Some(n) = self.read_word(b"FILE", i, &mut room) {
             act(&mut room[..n]);
         }
     }

@@ -11,25 +11,25 @@ use std::os::unix::fs::{MetadataExt, PermissionsExt, fchown};
 
 // Whose a file is, and who may use it.
 #[derive(Clone, Copy)]
-struct Access {
-    owner: u32,
-    group: u32,
-    mode: u32,
+pub struct Access {
+    pub owner: u32,
+    pub group: u32,
+    pub mode: u32,
 }
 
 // A file that is to be replaced by another: it is open, and its access.
 #[derive(Drop)]
-struct Old {
-    file: File,
-    access: Access,
+pub struct Old {
+    pub file: File,
+    pub access: Access,
 }
 
 // The file that a command replaces by another: its name, and the access that the other is given.
 #[derive(Clone, Copy)]
 pub struct Target<'a> {
     pub command: Command<'a>,
-    path: &'a [u8],
-    access: Access,
+    pub path: &'a [u8],
+    pub access: Access,
 }
 
 // A file that is open for reading and writing.
@@ -82,7 +82,7 @@ impl Command<'_> {
         match opened(self.rt, path) {
             Ok(file) => self.apart(path, file),
             Err(why) => {
-                self.unsaved(path, " cannot be changed", why);
+                self.unsaved(path, b" cannot be changed", why);
                 None
             }
         }
@@ -94,7 +94,7 @@ impl Command<'_> {
             drop(file);
             self.tell_of(
                 path,
-                " is as it was: standard input, output and error must be open",
+                b" is as it was: standard input, output and error must be open\n",
             );
             return None;
         }
@@ -102,21 +102,21 @@ impl Command<'_> {
     }
 
     // Says in one line on standard error why a file cannot be replaced.
-    fn turned_down(&self, path: &[u8], why: &str) -> Option<Old> {
+    fn turned_down(&self, path: &[u8], why: &[u8]) -> Option<Old> {
         self.tell_of(path, why);
         None
     }
 
     // Opens a file that is to be replaced by another. Only a regular file can be, and at a link, the new file would take the place of the link and
     // not of the file behind it. Where it cannot be replaced, one line on standard error says so, and there is none.
-    fn open_old(&self, path: &[u8]) -> Option<Old> {
+    pub fn open_old(&self, path: &[u8]) -> Option<Old> {
         let file = self.open_update(path)?;
         if known_of(self.rt, path).is_ok_and(|known| known.is_symlink()) {
-            return self.turned_down(path, " is a link: name the file itself");
+            return self.turned_down(path, b" is a link: name the file itself\n");
         }
         match status_of(&file) {
             Some(status) => Some(old_file(file, status)),
-            None => self.turned_down(path, " is not a regular file"),
+            None => self.turned_down(path, b" is not a regular file\n"),
         }
     }
 
@@ -147,14 +147,14 @@ impl Command<'_> {
         let mut path = [0u8; LONGEST_NAME];
         match path_at(self.rt, 1, &mut path) {
             Ok(n) => self.change_at(&path[..n], act),
-            Err(why) => self.unsaved(b"FILE", " cannot be changed", why),
+            Err(why) => self.unsaved(b"FILE", b" cannot be changed", why),
         }
     }
 }
 
 impl Target<'_> {
     // One line on standard error where the file is left as it was, with the system's reason.
-    fn unsaved(&self, what: &str, why: io::Error) -> bool {
+    fn unsaved(&self, what: &[u8], why: io::Error) -> bool {
         self.command.unsaved(self.path, what, why);
         false
     }
@@ -163,7 +163,7 @@ impl Target<'_> {
     fn written(&self, mut file: File, flow: &[u8]) -> bool {
         match filled(&mut file, self.access.mode, flow) {
             Ok(()) => true,
-            Err(why) => self.unsaved(" is as it was, since the new file cannot be written", why),
+            Err(why) => self.unsaved(b" is as it was, since the new file cannot be written", why),
         }
     }
 
@@ -172,7 +172,7 @@ impl Target<'_> {
         match rename(self.command.rt, new, self.path) {
             Ok(()) => true,
             Err(why) => self.unsaved(
-                " is as it was, since the new file cannot take its place",
+                b" is as it was, since the new file cannot take its place",
                 why,
             ),
         }
@@ -188,7 +188,7 @@ impl Target<'_> {
     }
 
     // Has a new file take the old one's place. One line on standard error says where its owner or group could not be kept.
-    fn put_in_place(&self, done: &str, file: File, new: &[u8], flow: &[u8]) -> bool {
+    fn put_in_place(&self, done: &[u8], file: File, new: &[u8], flow: &[u8]) -> bool {
         let kept = given_back(&file, self.access.owner, self.access.group);
         let replaced = self.replaced(file, new, flow);
         if replaced && !kept {
@@ -198,18 +198,18 @@ impl Target<'_> {
     }
 
     // Makes the new file, and has it take the old one's place. Until then it is for nobody but its maker to read.
-    fn saved_as(&self, done: &str, new: &mut [u8], flow: &[u8]) -> bool {
+    fn saved_as(&self, done: &[u8], new: &mut [u8], flow: &[u8]) -> bool {
         match create_beside(self.command.rt, new, 0o600) {
             Ok(file) => self.put_in_place(done, file, new, flow),
             Err(why) => self.unsaved(
-                " is as it was, since no new file can be made beside it",
+                b" is as it was, since no new file can be made beside it",
                 why,
             ),
         }
     }
 
     // Saves a flow under the name of the old one, and answers whether it could. `done` is the word for what was done to it.
-    pub fn replace(&self, done: &str, flow: &[u8]) -> bool {
+    pub fn replace(&self, done: &[u8], flow: &[u8]) -> bool {
         let mut room = [0u8; LONGEST_NAME];
         let n = put_name(&mut room, self.path);
         self.saved_as(done, &mut room[..n], flow)

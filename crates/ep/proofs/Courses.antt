@@ -12,7 +12,7 @@ use Rattle.ep.specs.declared.Tally.{Tally}
 use Rattle.ep.specs.declared.Step.{Step}
 use Rattle.ep.specs.declared.Course.{Course}
 use Rattle.ep.specs.Payments.{no_tally, stepped, unless, ended}
-use Rattle.ep.specs.Stream.{start_course, unfit, tally_by, outcome_by, counted, took, answered}
+use Rattle.ep.specs.Stream.{start_course, unfit, tally_by, outcome_by, counted, took, told, answered}
 
 pub started : (t : Tally) → t ≡ no_tally → record { fits = true; records = 0; tally = t; outcome = Pass } ≡ start_course
 started t e = ap (λ (u : Tally). record { fits = true; records = 0; tally = u; outcome = Pass }) e
@@ -66,6 +66,6 @@ module _ (c : Course) where
   unfolding answered
   answer-none e z = rw (e, eq-eqb _ _ z)
 
-  pub answer-by : c.fits ≡ true → (c.records ≡ 0 → ⊥) → (o : Outcome) → c.outcome ≡ o → unless o (ended c.tally) ≡ answered c
+  pub answer-by : c.fits ≡ true → (c.records ≡ 0 → ⊥) → (o : Outcome) → c.outcome ≡ o → unless (told o) (ended c.tally) ≡ answered c
   unfolding answered
   answer-by e n o f = rw (e, ne_eqb _ _ n, f)

@@ -2,7 +2,7 @@
 use Rattle.std.specs.Prelude.{Err}
 use Prim.Native.Nat.{ℕ, suc, zero, ◌+◌, ◌*◌, ◌/◌, ◌<◌, ◌≤◌}
 use mathlib.Core.Path.{◌≡◌, refl, sym, ap, ◌∙◌}
-use mathlib.Core.Bool.{Bool, true, false}
+use mathlib.Core.Bool.{Bool, true, false, cond}
 use mathlib.Core.List.{List, [], ◌∷◌, ◌++◌}
 use native.Mathlib.Omega.{arith}
 use native.Mathlib.Decide.{dec_le}
@@ -11,10 +11,15 @@ use lib.Dec.{eqb, ltb}
 use lib.ListN.{length, length-append, take, drop, length-drop, take-append-drop}
 use lib.Seq.{take_at, drop_at}
 use Rattle.text.proofs.Bytes.{part_length}
-use Rattle.ep.specs.Answers.{Outcome, Pass, Refused}
+use Rattle.ep_accounts.specs.Answers.{Accounts, Sum, NonDigit, Unequal}
+use Rattle.ep_accounts.specs.Accounts.{accounts_in}
+use Rattle.ep.specs.Answers.{Outcome, Pass, Fault, Refused}
+use Rattle.ep.specs.declared.Kind.{Kind}
+use Rattle.ep.specs.declared.Kind.TheVariants.{RecordM, RecordV, OtherRecord}
+use Rattle.ep.specs.declared.Tally.{Tally}
 use Rattle.ep.specs.declared.Course.{Course}
-use Rattle.ep.specs.Payments.{no_tally, fault, next, unless, judged_from, records_in, size_right, judged}
-use Rattle.ep.specs.Stream.{start_course, unfit, tally_by, outcome_by, counted, took, answered, took_all, joined, Cut}
+use Rattle.ep.specs.Payments.{no_tally, here, states, closing, accounts_fault, v_fault, after_other, fault_by, fault, next, unless, judged_from, records_in, size_right, judged, kind_of}
+use Rattle.ep.specs.Stream.{start_course, unfit, tally_by, outcome_by, counted, took, told, answered, took_all, joined, Cut}
 use Rattle.ep.specs.Bounds.{Sound}
 use Rattle.ep.specs.Plain.{records_of, Sized}
 use Rattle.ep.proofs.Steps.{small-start, small-next, seen_next}
@@ -89,17 +94,51 @@ unfolding took_all
 stays-unfit c [] e = e
 stays-unfit c (p ∷ ps) e = stays-unfit (took c p) ps (ap (λ (d : Course). d.fits) (sym (took-unfit c p e)) ∙ unfit-fits c)
 
+-- What is judged of a record has position 0 already.
+told-closing : (t : Tally) (n : ℕ) → told (closing t n) ≡ closing t n
+unfolding closing
+told-closing t n = go (eqb t.count 0) t.followed (states t.total t.own)
+  where
+    go : (a b d : Bool) → told (cond a Pass (cond b (cond d Pass (Fault 33 t.at)) (Fault 31 n))) ≡ cond a Pass (cond b (cond d Pass (Fault 33 t.at)) (Fault 31 n))
+    go true b d = refl
+    go false true true = refl
+    go false true false = refl
+    go false false d = refl
+
+told-v : (t : Tally) (a : Accounts) → told (v_fault t a) ≡ v_fault t a
+unfolding v_fault
+told-v t a = go (eqb t.count 0) a
+  where
+    go : (b : Bool) (a : Accounts) → told (cond b (Fault 31 (here t)) (accounts_fault (here t) a)) ≡ cond b (Fault 31 (here t)) (accounts_fault (here t) a)
+    go true a = refl
+    go false (Sum s) = refl
+    go false NonDigit = refl
+    go false Unequal = refl
+
+told-other : (n : ℕ) (o : Outcome) → told o ≡ o → told (after_other n o) ≡ after_other n o
+told-other n Pass e = refl
+told-other n (Err why) e = e
+
+told-fault : (t : Tally) (r : List ℕ) → told (fault t r) ≡ fault t r
+unfolding fault
+told-fault t r = go (kind_of r)
+  where
+    go : (k : Kind) → told (fault_by k t r) ≡ fault_by k t r
+    go RecordM = told-closing t (here t)
+    go RecordV = told-v t (accounts_in r)
+    go OtherRecord = told-other (here t) (closing t (here t)) (told-closing t (here t))
+
 -- What the course so far and the records to come are answered with.
-by-course : (c : Course) (p : List ℕ) (ps : List (List ℕ)) → unless (counted c p).outcome (judged_from (counted c p).tally ps) ≡ unless c.outcome (judged_from c.tally (p ∷ ps))
+by-course : (c : Course) (p : List ℕ) (ps : List (List ℕ)) → unless (told (counted c p).outcome) (judged_from (counted c p).tally ps) ≡ unless (told c.outcome) (judged_from c.tally (p ∷ ps))
 unfolding counted judged_from
 by-course c p ps = go c.outcome
   where
-    go : (o : Outcome) → unless (outcome_by o c.tally p) (judged_from (tally_by o c.tally p) ps) ≡ unless o (unless (fault c.tally p) (judged_from (next c.tally p) ps))
-    go Pass = refl
+    go : (o : Outcome) → unless (told (outcome_by o c.tally p)) (judged_from (tally_by o c.tally p) ps) ≡ unless (told o) (unless (fault c.tally p) (judged_from (next c.tally p) ps))
+    go Pass = ap (λ (o : Outcome). unless o (judged_from (next c.tally p) ps)) (told-fault c.tally p)
     go (Err why) = refl
 
 -- Records that are not too many are judged.
-few-judged : (c : Course) (ps : List (List ℕ)) → c.fits ≡ true → Whole ps → 0 < c.records + length ps → c.records + length ps ≤ 10000 → answered (took_all c ps) ≡ unless c.outcome (judged_from c.tally ps)
+few-judged : (c : Course) (ps : List (List ℕ)) → c.fits ≡ true → Whole ps → 0 < c.records + length ps → c.records + length ps ≤ 10000 → answered (took_all c ps) ≡ unless (told c.outcome) (judged_from c.tally ps)
 unfolding took_all judged_from
 few-judged c [] f w s m = sym (answer-by c f (λ e. absurd (omega arith)) c.outcome refl)
 few-judged c (p ∷ ps) f w s m =

@@ -1,6 +1,6 @@
 -- Serves inner functions. The records as they are read, piece by piece, and the answer at the end: the theorem `streamed` says that it is that of all the bytes read.
 use Rattle.std.specs.Prelude.{ℕ, ◌+◌, ◌<◌, ◌≤◌, Bool, true, false, cond, List, [], ◌∷◌, ◌++◌, ◌≡◌, eqb, ltb, length, Err}
-use Rattle.ep.specs.Answers.{Outcome, Pass, EpAnswer, Refused}
+use Rattle.ep.specs.Answers.{Outcome, Pass, Fault, EpAnswer, Refused}
 use Rattle.ep.specs.declared.Tally.{Tally}
 use Rattle.ep.specs.declared.Course.{Course}
 use Rattle.ep.specs.Payments.{no_tally, fault, next, unless, ended}
@@ -34,9 +34,14 @@ one_more c p = cond c.fits (cond (eqb (length p) 1900) (ltb c.records 10000) fal
 unfoldable pub took : Course → List ℕ → Course
 took c p = cond (one_more c p) (counted c p) (unfit c)
 
+-- a fault as it is told: its number and its record, and position 0
+abbrev pub told : Outcome → Outcome
+told Pass = Pass
+told (Err why) = Fault why.number why.«record»
+
 -- the answer where no piece is left
 unfoldable pub answered : Course → EpAnswer
-answered c = cond c.fits (cond (eqb c.records 0) (Refused 30 0 0) (unless c.outcome (ended c.tally))) (Refused 30 0 0)
+answered c = cond c.fits (cond (eqb c.records 0) (Refused 30 0 0) (unless (told c.outcome) (ended c.tally))) (Refused 30 0 0)
 
 -- pieces one after the other
 unfoldable pub took_all : Course → List (List ℕ) → Course

@@ -4,7 +4,7 @@ ghost use Rattle.std.specs.Prelude.{◌≡◌, ◌<◌, length};
 ghost use Rattle.ep.specs.Stream.{start_course, unfit, counted, took, answered};
 ghost use Rattle.ep.specs.Bounds.{Sound};
 
-use crate::{Course, MOST_RECORDS, Payments, ended, no_tally, step_by};
+use crate::{Course, MOST_RECORDS, Payments, ended, no_tally, refused, step_by};
 use ep_accounts::RECORD;
 use refusal::Refusal;
 
@@ -64,7 +64,7 @@ pub fn take(course: Course, piece: &[u8]) -> Course
     }
 }
 
-// The answer where no piece is left.
+// The answer where no piece is left. A fault is told with position 0, whatever position stands in the course.
 pub fn answered(course: Course) -> Result<Payments, Refusal>
     requires { Sound course }
     ensures { result ≡ answered course }
@@ -72,6 +72,8 @@ pub fn answered(course: Course) -> Result<Payments, Refusal>
     if !course.fits || course.records == 0 {
         return Err(Refusal::NO_FORM_RECORDS);
     }
-    course.outcome?;
+    if let Err(why) = course.outcome {
+        return Err(refused(why.number, why.record));
+    }
     ended(course.tally)
 }

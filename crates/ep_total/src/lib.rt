@@ -105,7 +105,7 @@ pub fn read_total(part: &[u8]) -> Option<u64>
     let n = digits_in(part);
     let mut room = [b' '; ROOM];
     let end = put_total(&mut room, n);
-    if end <= TOTAL && part == &room[..TOTAL] {
+    if end <= TOTAL && text::same_bytes(part, &room[..TOTAL]) {
         Some(n)
     } else {
         None

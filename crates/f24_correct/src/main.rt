@@ -25,7 +25,7 @@ fn correct_flow(target: &Target, flow: &mut [u8], call: Call) {
         call.credit,
     ) {
         Ok(()) => {
-            if target.replace("corrected", flow) {
+            if target.replace(b"corrected", flow) {
                 desk::print_judgement(rt, judge::judge(flow));
             }
         }
@@ -35,10 +35,10 @@ fn correct_flow(target: &Target, flow: &mut [u8], call: Call) {
 
 // Reads the new amounts, and corrects the named line of the flow in the file that the first argument names.
 fn correct_line(command: &Command, delega: u64, subtype: u64, nth: u64) {
-    let Some(debit) = command.number_at("DEBIT", 5) else {
+    let Some(debit) = command.number_at(b"DEBIT", 5) else {
         return;
     };
-    let Some(credit) = command.number_at("CREDIT", 6) else {
+    let Some(credit) = command.number_at(b"CREDIT", 6) else {
         return;
     };
     let call = Call {
@@ -54,22 +54,22 @@ fn correct_line(command: &Command, delega: u64, subtype: u64, nth: u64) {
 fn main(rt: HostRuntime) {
     let command = Command {
         rt: &rt,
-        name: "correct",
+        name: b"correct",
     };
     if desk::count_words(&rt) != 7 {
         command.misused(
-            "six arguments are needed",
-            "FILE DELEGA SUBTYPE PLACE DEBIT CREDIT",
+            b"six arguments are needed",
+            b"FILE DELEGA SUBTYPE PLACE DEBIT CREDIT",
         );
         return;
     }
-    let Some(delega) = command.number_at("DELEGA", 2) else {
+    let Some(delega) = command.number_at(b"DELEGA", 2) else {
         return;
     };
-    let Some(subtype) = command.number_at("SUBTYPE", 3) else {
+    let Some(subtype) = command.number_at(b"SUBTYPE", 3) else {
         return;
     };
-    let Some(nth) = command.number_at("PLACE", 4) else {
+    let Some(nth) = command.number_at(b"PLACE", 4) else {
         return;
     };
     correct_line(&command, delega, subtype, nth);

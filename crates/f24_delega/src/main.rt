@@ -6,13 +6,13 @@ use desk::Command;
 fn main(rt: HostRuntime) {
     let command = Command {
         rt: &rt,
-        name: "delega",
+        name: b"delega",
     };
     if desk::count_words(&rt) != 3 {
-        command.misused("two arguments are needed", "FILE NUMBER");
+        command.misused(b"two arguments are needed", b"FILE NUMBER");
         return;
     }
-    if let Some(number) = command.number_at("NUMBER", 2) {
+    if let Some(number) = command.number_at(b"NUMBER", 2) {
         command.with_flow(1, |flow| desk::print_delega(&rt, flow, number));
     }
 }

@@ -10,7 +10,7 @@ const MOST_NUMBERS: usize = Flow::MOST_RECORDS + 1;
 
 // Saves the flow that is left, and prints its judgement.
 fn deliver(target: &Target, flow: &[u8]) {
-    if target.replace("shortened", flow) {
+    if target.replace(b"shortened", flow) {
         desk::print_judgement(target.command.rt, judge::judge(flow));
     }
 }
@@ -33,7 +33,7 @@ fn put(list: &mut [u64], i: usize, number: u64) {
 // Reads the arguments from the second on, and puts as many of their numbers into a list as it holds. False, with one line on standard error, where one of them is no number.
 fn read_numbers(command: &Command, list: &mut [u64], count: usize) -> bool {
     for i in 2..count {
-        let Some(number) = command.number_at("NUMBER", i) else {
+        let Some(number) = command.number_at(b"NUMBER", i) else {
             return false;
         };
         put(list, i - 2, number);
@@ -45,13 +45,13 @@ fn read_numbers(command: &Command, list: &mut [u64], count: usize) -> bool {
 fn main(rt: HostRuntime) {
     let command = Command {
         rt: &rt,
-        name: "drop",
+        name: b"drop",
     };
     let count = desk::count_words(&rt);
     if count < 3 {
         command.misused(
-            "a file and at least one number are needed",
-            "FILE NUMBER ..",
+            b"a file and at least one number are needed",
+            b"FILE NUMBER ..",
         );
         return;
     }

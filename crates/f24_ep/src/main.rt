@@ -67,14 +67,14 @@ fn judge_named(command: &Command, word: &[u8]) {
 fn main(rt: HostRuntime) {
     let command = Command {
         rt: &rt,
-        name: "ep",
+        name: b"ep",
     };
     if 2 < desk::count_words(&rt) {
-        command.misused("one file is judged at a time", "FILE");
+        command.misused(b"one file is judged at a time", b"FILE");
         return;
     }
     let mut word = [0u8; desk::LONGEST_NAME];
-    if let Some(n) = command.name_at("FILE", 1, &mut word) {
+    if let Some(n) = command.name_at(b"FILE", 1, &mut word) {
         judge_named(&command, &word[..n]);
     }
 }

@@ -1,5 +1,5 @@
 -- Laws of calls one after the other, with the calls made counted as the code counts them.
-use Prim.Native.Nat.{ℕ, zero, suc, ◌+◌, ◌-◌, ◌<◌}
+use Prim.Native.Nat.{ℕ, zero, suc, ◌+◌, ◌-◌, ◌<◌, ◌≤◌}
 use mathlib.Core.Path.{◌≡◌, refl, sym, ap, ◌∙◌}
 use mathlib.Core.Bool.{true, false}
 use mathlib.Core.List.{List}
@@ -27,7 +27,12 @@ module _ (s : List ℕ) (p : ℕ) (a : Portion) where
   pub call-ended : (k : ℕ) → goes_on a.answer ≡ false → called_on (546 - k) s p a k ≡ record { last = a; made = k }
   call-ended k e = no_more (546 - k) k e
 
-  -- k is the last that is counted
-  pub call-last : (k : ℕ) → k ≡ 546 → called_on (546 - k) s p a k ≡ record { last = a; made = 546 }
+  pub call-last : (k : ℕ) → 546 ≤ k → called_on (546 - k) s p a k ≡ record { last = a; made = k }
   unfolding called_on
-  call-last k h = rw h
+  call-last k h =
+      let none : 546 - k ≡ 0 = omega arith in
+      ap (λ (n : ℕ). called_on n s p a k) none
+
+  -- k is the last that is counted
+  pub call-at-last : (k : ℕ) → k ≡ 546 → called_on (546 - k) s p a k ≡ record { last = a; made = 546 }
+  call-at-last k h = call-last k (omega arith) ∙ ap (λ (n : ℕ). record { last = a; made = n }) h

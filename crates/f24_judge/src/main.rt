@@ -76,13 +76,16 @@ fn print_calls(command: &Command, calls: Calls) {
     if print_ended(command.rt, last) {
         desk::print_examined(command.rt, last.examined, calls.made);
     } else {
-        command.tell_of(b"FILE", " is not judged: the calls have come to no answer");
+        command.tell_of(
+            b"FILE",
+            b" is not judged: the calls have come to no answer\n",
+        );
     }
 }
 
 // Reads the portion, and judges by it the flow that the third argument names.
 fn judge_portions(command: &Command) {
-    let Some(portion) = command.number_at("N", 2) else {
+    let Some(portion) = command.number_at(b"N", 2) else {
         return;
     };
     if portion == 0 {
@@ -98,13 +101,13 @@ fn judge_portions(command: &Command) {
 fn asks_portions(rt: &HostRuntime) -> bool {
     let mut word = [0u8; 9];
     let n = desk::word_at(rt, 1, &mut word);
-    desk::count_words(rt) == 4 && &word[..n] == b"--portion".as_slice()
+    desk::count_words(rt) == 4 && text::same_bytes(&word[..n], b"--portion")
 }
 
 fn main(rt: HostRuntime) {
     let command = Command {
         rt: &rt,
-        name: "judge",
+        name: b"judge",
     };
     if asks_portions(&rt) {
         judge_portions(&command);
@@ -112,8 +115,8 @@ fn main(rt: HostRuntime) {
     }
     if 2 < desk::count_words(&rt) {
         command.misused(
-            "one flow is judged at a time",
-            "FILE, or ./f24 judge --portion N FILE",
+            b"one flow is judged at a time",
+            b"FILE, or ./f24 judge --portion N FILE",
         );
         return;
     }

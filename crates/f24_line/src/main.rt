@@ -6,19 +6,19 @@ use desk::Command;
 fn main(rt: HostRuntime) {
     let command = Command {
         rt: &rt,
-        name: "line",
+        name: b"line",
     };
     if desk::count_words(&rt) != 5 {
-        command.misused("four arguments are needed", "FILE DELEGA SUBTYPE PLACE");
+        command.misused(b"four arguments are needed", b"FILE DELEGA SUBTYPE PLACE");
         return;
     }
-    let Some(delega) = command.number_at("DELEGA", 2) else {
+    let Some(delega) = command.number_at(b"DELEGA", 2) else {
         return;
     };
-    let Some(subtype) = command.number_at("SUBTYPE", 3) else {
+    let Some(subtype) = command.number_at(b"SUBTYPE", 3) else {
         return;
     };
-    let Some(nth) = command.number_at("PLACE", 4) else {
+    let Some(nth) = command.number_at(b"PLACE", 4) else {
         return;
     };
     command.with_flow(1, |flow| desk::print_line(&rt, flow, delega, subtype, nth));

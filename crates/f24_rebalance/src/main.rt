@@ -16,7 +16,7 @@ fn print_rebalanced(rt: &HostRuntime, flow: &[u8], list: &[u64], count: usize) {
 
 // Saves a flow in which fields changed; where none did, the file is the flow already and is not written. False where it cannot be saved.
 fn kept(target: &Target, flow: &[u8], count: usize) -> bool {
-    count == 0 || target.replace("rebalanced", flow)
+    count == 0 || target.replace(b"rebalanced", flow)
 }
 
 // Rebalances a flow that was read from a file.
@@ -46,21 +46,21 @@ fn try_flow(rt: &HostRuntime, flow: &mut [u8]) {
 fn asks_dry(rt: &HostRuntime) -> bool {
     let mut word = [0u8; 5];
     let n = desk::word_at(rt, 1, &mut word);
-    &word[..n] == b"--dry".as_slice()
+    text::same_bytes(&word[..n], b"--dry")
 }
 
 // A first word --dry is never FILE itself, also where no other follows it: whoever asked that nothing be saved is told the usage.
 fn main(rt: HostRuntime) {
     let command = Command {
         rt: &rt,
-        name: "rebalance",
+        name: b"rebalance",
     };
     match (asks_dry(&rt), desk::count_words(&rt)) {
         (true, 3) => command.with_flow(2, |flow| try_flow(&rt, flow)),
         (false, 2) => command.change_file(rebalance_flow),
         _ => command.misused(
-            "one flow is rebalanced at a time",
-            "FILE, or ./f24 rebalance --dry FILE",
+            b"one flow is rebalanced at a time",
+            b"FILE, or ./f24 rebalance --dry FILE",
         ),
     }
 }

@@ -35,10 +35,10 @@ fn walk_through(rt: &HostRuntime, flow: &[u8]) {
 fn main(rt: HostRuntime) {
     let command = Command {
         rt: &rt,
-        name: "walk",
+        name: b"walk",
     };
     if desk::count_words(&rt) != 2 {
-        command.misused("one argument is needed", "FILE");
+        command.misused(b"one argument is needed", b"FILE");
         return;
     }
     command.with_flow(1, |flow| walk_through(&rt, flow));

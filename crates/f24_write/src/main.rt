@@ -27,13 +27,13 @@ impl NewFile<'_> {
     fn exists(&self) -> bool {
         self.command.tell_of(
             self.path,
-            " exists already and is left as it is: a flow is written to a new file",
+            b" exists already and is left as it is: a flow is written to a new file\n",
         );
         false
     }
 
     // One line on standard error where the new file is not made, with the system's reason.
-    fn unsaved(&self, what: &str, why: io::Error) -> bool {
+    fn unsaved(&self, what: &[u8], why: io::Error) -> bool {
         self.command.unsaved(self.path, what, why);
         false
     }
@@ -44,7 +44,7 @@ impl NewFile<'_> {
             Ok(()) => true,
             Err(why) => {
                 self.unsaved(
-                    " is not made, since the written file cannot take its name",
+                    b" is not made, since the written file cannot take its name",
                     why,
                 );
                 desk::remove(self.command.rt, self.path);
@@ -62,7 +62,7 @@ impl NewFile<'_> {
                 moved
             }
             Err(why) if why.kind() == ErrorKind::AlreadyExists => self.exists(),
-            Err(why) => self.unsaved(" cannot be made", why),
+            Err(why) => self.unsaved(b" cannot be made", why),
         }
     }
 
@@ -71,7 +71,7 @@ impl NewFile<'_> {
     fn saved_in(&self, file: &mut File, beside: &[u8], flow: &[u8]) -> bool {
         match desk::stored(file, flow) {
             Ok(()) => self.named(beside),
-            Err(why) => self.unsaved(" is not made, since it cannot be written", why),
+            Err(why) => self.unsaved(b" is not made, since it cannot be written", why),
         }
     }
 
@@ -89,7 +89,7 @@ impl NewFile<'_> {
     fn saved_as(&self, beside: &mut [u8], flow: &[u8]) -> bool {
         match desk::create_beside(self.command.rt, beside, NEW_MODE) {
             Ok(file) => self.saved_from(file, beside, flow),
-            Err(why) => self.unsaved(" is not made, since no file can be made beside it", why),
+            Err(why) => self.unsaved(b" is not made, since no file can be made beside it", why),
         }
     }
 
@@ -116,13 +116,13 @@ fn write_flow(new: &NewFile, sheet: &[u8]) {
 fn write_sheet(new: &NewFile) {
     let command = new.command;
     let mut room = [0u8; MOST_BYTES + 1];
-    let Some(n) = command.read_word("SHEET", 1, &mut room) else {
+    let Some(n) = command.read_word(b"SHEET", 1, &mut room) else {
         return;
     };
     if MOST_BYTES < n {
         command.tell_of(
             b"SHEET",
-            " has more than 67,213 bytes, and no such sheet can be cut into 546 records",
+            b" has more than 67,213 bytes, and no such sheet can be cut into 546 records\n",
         );
         return;
     }
@@ -141,10 +141,10 @@ fn write_to(new: &NewFile) {
 fn main(rt: HostRuntime) {
     let command = Command {
         rt: &rt,
-        name: "write",
+        name: b"write",
     };
     if desk::count_words(&rt) != 3 {
-        command.misused("two arguments are needed", "SHEET FLOW");
+        command.misused(b"two arguments are needed", b"SHEET FLOW");
         return;
     }
     let mut path = [0u8; desk::LONGEST_NAME];
@@ -153,6 +153,6 @@ fn main(rt: HostRuntime) {
             let path = &path[..n];
             write_to(&NewFile { command, path });
         }
-        Err(why) => command.unsaved(b"FLOW", " cannot be made", why),
+        Err(why) => command.unsaved(b"FLOW", b" cannot be made", why),
     }
 }
