@@ -41,7 +41,7 @@ fn number_at(x: Progress, i: usize) -> u64
         return stands[i];
     }
     if i < 33 {
-        // Kept: speed: of a copy an element is read at once, and `x.kept[i - 4]` copies the field at each of the 53 turns (a call of one record: 3,382 instructions, and 4,606 so).
+        // Kept: speed: an element is read of a copy that the compiler makes once; `x.kept[i - 4]` copies the field anew each time (a call of `f24_judge_portion` for one record: 3,325 instructions, and 4,556 so).
         let kept = x.kept;
         return kept[i - 4];
     }
