@@ -1,5 +1,5 @@
 -- The answer of the pieces, taken one after the other, is the judgement of all their bytes.
-use Rattle.std.specs.Prelude.{Err}
+use Rattle.std.specs.Prelude.{Ok, Err}
 use Prim.Native.Nat.{ℕ, suc, zero, ◌+◌, ◌*◌, ◌/◌, ◌<◌, ◌≤◌}
 use mathlib.Core.Path.{◌≡◌, refl, sym, ap, ◌∙◌}
 use mathlib.Core.Bool.{Bool, true, false, cond}
@@ -13,12 +13,12 @@ use lib.Seq.{take_at, drop_at}
 use Rattle.text.proofs.Bytes.{part_length}
 use Rattle.ep_accounts.specs.Answers.{Accounts, Sum, NonDigit, Unequal}
 use Rattle.ep_accounts.specs.Accounts.{accounts_in}
-use Rattle.ep.specs.Answers.{Outcome, Pass, Fault, Refused}
+use Rattle.ep.specs.Answers.{Outcome, Pass, Fault, EpAnswer, Accepted, Refused}
 use Rattle.ep.specs.declared.Kind.{Kind}
 use Rattle.ep.specs.declared.Kind.TheVariants.{RecordM, RecordV, OtherRecord}
 use Rattle.ep.specs.declared.Tally.{Tally}
 use Rattle.ep.specs.declared.Course.{Course}
-use Rattle.ep.specs.Payments.{no_tally, here, states, closing, accounts_fault, v_fault, after_other, fault_by, fault, next, unless, judged_from, records_in, size_right, judged, kind_of}
+use Rattle.ep.specs.Payments.{no_tally, here, states, closing, accounts_fault, v_fault, after_other, fault_by, fault, next, unless, ended, judged_from, records_in, size_right, judged, kind_of}
 use Rattle.ep.specs.Stream.{start_course, unfit, tally_by, outcome_by, counted, took, told, answered, took_all, joined, Cut}
 use Rattle.ep.specs.Bounds.{Sound}
 use Rattle.ep.specs.Plain.{records_of, Sized}
@@ -127,6 +127,29 @@ told-fault t r = go (kind_of r)
     go RecordM = told-closing t (here t)
     go RecordV = told-v t (accounts_in r)
     go OtherRecord = told-other (here t) (closing t (here t)) (told-closing t (here t))
+
+-- The position of an answer; 0 where it is no refusal.
+abbrev position_of : EpAnswer → ℕ
+position_of (Ok all) = 0
+position_of (Err why) = why.position
+
+told-at-zero : (o : Outcome) (a : EpAnswer) → position_of a ≡ 0 → position_of (unless (told o) a) ≡ 0
+told-at-zero Pass a z = z
+told-at-zero (Err why) a z = refl
+
+ended-at-zero : (t : Tally) → position_of (ended t) ≡ 0
+unfolding ended
+ended-at-zero t = ap (λ (o : Outcome). position_of (unless o (Accepted t.count t.sum))) (sym (told-closing t (here t))) ∙ told-at-zero (closing t (here t)) (Accepted t.count t.sum) refl
+
+-- Whatever course is answered, one put together by hand too, a refusal has position 0.
+pub answered-at-zero : (c : Course) (e k p : ℕ) → answered c ≡ Refused e k p → p ≡ 0
+unfolding answered
+answered-at-zero c e k p h = sym (ap (λ (a : EpAnswer). position_of a) h) ∙ go c.fits (eqb c.records 0) (unless (told c.outcome) (ended c.tally)) (told-at-zero c.outcome (ended c.tally) (ended-at-zero c.tally))
+  where
+    go : (f r : Bool) (a : EpAnswer) → position_of a ≡ 0 → position_of (cond f (cond r (Refused 30 0 0) a) (Refused 30 0 0)) ≡ 0
+    go true true a z = refl
+    go true false a z = z
+    go false r a z = refl
 
 -- What the course so far and the records to come are answered with.
 by-course : (c : Course) (p : List ℕ) (ps : List (List ℕ)) → unless (told (counted c p).outcome) (judged_from (counted c p).tally ps) ≡ unless (told c.outcome) (judged_from c.tally (p ∷ ps))

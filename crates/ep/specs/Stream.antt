@@ -34,7 +34,7 @@ one_more c p = cond c.fits (cond (eqb (length p) 1900) (ltb c.records 10000) fal
 unfoldable pub took : Course → List ℕ → Course
 took c p = cond (one_more c p) (counted c p) (unfit c)
 
--- a fault as it is told: its number and its record, and position 0
+-- a fault, as it is told "with the record's number and position 0"
 abbrev pub told : Outcome → Outcome
 told Pass = Pass
 told (Err why) = Fault why.number why.«record»
