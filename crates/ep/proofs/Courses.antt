@@ -69,3 +69,7 @@ module _ (c : Course) where
   pub answer-by : c.fits ≡ true → (c.records ≡ 0 → ⊥) → (o : Outcome) → c.outcome ≡ o → unless (told o) (ended c.tally) ≡ answered c
   unfolding answered
   answer-by e n o f = rw (e, ne_eqb _ _ n, f)
+
+  -- An outcome whose position is 0 is told as it stands.
+  pub answer-standing : c.fits ≡ true → (c.records ≡ 0 → ⊥) → (o : Outcome) → c.outcome ≡ o → told o ≡ o → unless o (ended c.tally) ≡ answered c
+  answer-standing e n o f z = ap (λ (p : Outcome). unless p (ended c.tally)) (sym z) ∙ answer-by e n o f

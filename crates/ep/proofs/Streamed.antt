@@ -19,7 +19,7 @@ use Rattle.ep.specs.declared.Kind.TheVariants.{RecordM, RecordV, OtherRecord}
 use Rattle.ep.specs.declared.Tally.{Tally}
 use Rattle.ep.specs.declared.Course.{Course}
 use Rattle.ep.specs.Payments.{no_tally, here, states, closing, accounts_fault, v_fault, after_other, fault_by, fault, next, unless, ended, judged_from, records_in, size_right, judged, kind_of}
-use Rattle.ep.specs.Stream.{start_course, unfit, tally_by, outcome_by, counted, took, told, answered, took_all, joined, Cut}
+use Rattle.ep.specs.Stream.{start_course, unfit, tally_by, outcome_by, counted, one_more, took, told, answered, took_all, joined, Cut}
 use Rattle.ep.specs.Bounds.{Sound}
 use Rattle.ep.specs.Plain.{records_of, Sized}
 use Rattle.ep.proofs.Steps.{small-start, small-next, seen_next}
@@ -127,6 +127,27 @@ told-fault t r = go (kind_of r)
     go RecordM = told-closing t (here t)
     go RecordV = told-v t (accounts_in r)
     go OtherRecord = told-other (here t) (closing t (here t)) (told-closing t (here t))
+
+-- So has the outcome of all pieces that were taken, from the first on: `answer-standing` says the answer of each course that the program holds.
+told-by : (o : Outcome) (t : Tally) (p : List ℕ) → told o ≡ o → told (outcome_by o t p) ≡ outcome_by o t p
+told-by Pass t p e = told-fault t p
+told-by (Err why) t p e = e
+
+told-one : (c : Course) (p : List ℕ) → told c.outcome ≡ c.outcome → told (took c p).outcome ≡ (took c p).outcome
+unfolding took counted unfit
+told-one c p e = go (one_more c p)
+  where
+    go : (b : Bool) → told (cond b (counted c p) (unfit c)).outcome ≡ (cond b (counted c p) (unfit c)).outcome
+    go true = told-by c.outcome c.tally p e
+    go false = e
+
+told-all : (c : Course) (ps : List (List ℕ)) → told c.outcome ≡ c.outcome → told (took_all c ps).outcome ≡ (took_all c ps).outcome
+unfolding took_all
+told-all c [] e = e
+told-all c (p ∷ ps) e = told-all (took c p) ps (told-one c p e)
+
+pub told-taken : (ps : List (List ℕ)) → told (took_all start_course ps).outcome ≡ (took_all start_course ps).outcome
+told-taken ps = told-all start_course ps refl
 
 -- The position of an answer; 0 where it is no refusal.
 abbrev position_of : EpAnswer → ℕ
