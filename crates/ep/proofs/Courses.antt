@@ -70,6 +70,6 @@ module _ (c : Course) where
   unfolding answered
   answer-by e n o f = rw (e, ne_eqb _ _ n, f)
 
-  -- An outcome whose position is 0 is told as it stands.
+  -- Where its outcome is told as it stands, as one with position 0 is, a course that fits and has records is answered by it.
   pub answer-standing : c.fits ≡ true → (c.records ≡ 0 → ⊥) → (o : Outcome) → c.outcome ≡ o → told o ≡ o → unless o (ended c.tally) ≡ answered c
   answer-standing e n o f z = ap (λ (p : Outcome). unless p (ended c.tally)) (sym z) ∙ answer-by e n o f
