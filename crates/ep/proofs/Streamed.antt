@@ -128,7 +128,7 @@ told-fault t r = go (kind_of r)
     go RecordV = told-v t (accounts_in r)
     go OtherRecord = told-other (here t) (closing t (here t)) (told-closing t (here t))
 
--- So has the outcome of a course that was taken piece by piece from the start, so that `answer-standing` speaks of every course that the program holds.
+-- The outcome of a course that was taken piece by piece from the start is told as it stands, so that `answer-standing` speaks of every course that the program holds.
 told-by : (o : Outcome) (t : Tally) (p : List ℕ) → told o ≡ o → told (outcome_by o t p) ≡ outcome_by o t p
 told-by Pass t p e = told-fault t p
 told-by (Err why) t p e = e
